@@ -1,0 +1,82 @@
+//! Numbers, byte strings and lists of them as bytes, and back.
+//!
+//! A number is a `u32` in little-endian order. A byte string stands behind its length, and a list behind the count of its
+//! elements. The writers add to a buffer, and the readers take from the front of a slice and hand out the rest.
+#![tactic(auto)]
+
+ghost use Rattle.std.specs.Prelude.{◌≡◌, ◌+◌, ◌<◌, ◌≤◌, ◌^◌, ◌++◌, length, OnOk, OnErr, IsOk, vec_len, vec_capacity};
+ghost use Rattle.codes.specs.Codes.{Reads, Separates, word, IsWord, read_word, str, IsShort, read_str, list, IsList, read_list};
+ghost use Rattle.codes.specs.Views.{taken_by};
+
+use std::alloc::AllocError;
+
+/// The law of the codes: each reader gives back what was written, whatever follows, and reads nothing else. So no two
+/// values have one code, whatever follows the one and the other. A list of anything that is read so is read so itself.
+pub fn codes_law()
+    ensures word { Reads word IsWord read_word }
+    ensures str { Reads str IsShort read_str }
+    ensures list { Reads (list str) (IsList IsShort) (read_list read_str) }
+    ensures nested { Reads (list (list str)) (IsList (IsList IsShort)) (read_list (read_list read_str)) }
+    ensures words_differ { Separates word IsWord }
+    ensures strs_differ { Separates str IsShort }
+    ensures lists_differ { Separates (list str) (IsList IsShort) }
+    ensures nested_differ { Separates (list (list str)) (IsList (IsList IsShort)) }
+{}
+
+/// The number at the front, and what follows it. `None` where there are fewer than four bytes.
+#[tactic(auto, unfolding(crate::specs::Codes::read_word))]
+pub fn word_at(bytes: &[u8]) -> Option<(u32, &[u8])>
+    ensures { taken_by (λ p. p.0) (λ p. p.1.now) result ≡ read_word bytes.now }
+{
+    if bytes.len() < 4 {
+        return None;
+    }
+    let (front, rest) = bytes.split_at(4);
+    let word = u32::from_le_bytes([front[0], front[1], front[2], front[3]]);
+    Some((word, rest))
+}
+
+/// The byte string at the front, and what follows it. `None` where its length or the string does not stand there whole.
+#[tactic(auto, unfolding(crate::specs::Codes::read_str))]
+pub fn str_at(bytes: &[u8]) -> Option<(&[u8], &[u8])>
+    ensures { taken_by (λ p. p.0.now) (λ p. p.1.now) result ≡ read_str bytes.now }
+{
+    let (len, rest) = word_at(bytes)?;
+    let len = len as usize;
+    if rest.len() < len {
+        return None;
+    }
+    let (front, more) = rest.split_at(len);
+    Some((front, more))
+}
+
+/// Adds a number. Room that the caller has taken before is enough: memory is wanting only where four bytes do not fit.
+#[tactic(auto, unfolding(crate::specs::Codes::word))]
+pub fn put_word(to: &mut Vec<u8>, n: u32) -> Result<(), AllocError>
+    ensures written { OnOk result (to.new.items ≡ to.old.items ++ word n) }
+    ensures kept { OnErr result (to.new.items ≡ to.old.items) }
+    ensures len { OnOk result (vec_len to.new ≡ vec_len to.old + 4) }
+    ensures capacity { vec_capacity to.old ≤ vec_capacity to.new }
+    ensures succeeds { vec_len to.old + 4 ≤ vec_capacity to.old → IsOk result }
+{
+    to.extend_from_slice(&n.to_le_bytes())?;
+    Ok(())
+}
+
+/// Adds a byte string behind its length. The room for both is taken first, and memory is wanting only where they do not
+/// fit.
+#[tactic(auto, unfolding(crate::specs::Codes::str))]
+pub fn put_str(to: &mut Vec<u8>, bytes: &[u8]) -> Result<(), AllocError>
+    requires { length bytes.now < 2 ^ 32 }
+    ensures written { OnOk result (to.new.items ≡ to.old.items ++ str bytes.now) }
+    ensures kept { OnErr result (to.new.items ≡ to.old.items) }
+    ensures len { OnOk result (vec_len to.new ≡ vec_len to.old + (4 + length bytes.now)) }
+    ensures capacity { vec_capacity to.old ≤ vec_capacity to.new }
+    ensures succeeds { vec_len to.old + (4 + length bytes.now) ≤ vec_capacity to.old → IsOk result }
+{
+    // A sum past the end of a `usize` is refused as any room that there is not.
+    to.reserve(bytes.len().saturating_add(4))?;
+    put_word(to, bytes.len() as u32)?;
+    to.extend_from_slice(bytes)?;
+    Ok(())
+}

@@ -1,0 +1,8 @@
+-- Trees in which nothing runs.
+use Rattle.std.specs.Prelude.{◌≡◌, false}
+use Rattle.rel_path.specs.Paths.{Path}
+use Rattle.tree_dev.specs.Tree.{TreeState}
+
+-- no path may change by itself
+abbrev pub IsQuiet : {R : Type 0} → TreeState R → Type 0
+IsQuiet state = (path : Path) → state.held path ≡ false

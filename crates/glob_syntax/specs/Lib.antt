@@ -1,0 +1,10 @@
+pub mod Marks
+pub mod Atoms
+pub mod Tokens
+pub mod Braces
+pub mod Pieces
+pub mod Climbs
+pub mod Outlook
+pub mod Parts
+pub mod Faults
+pub mod Reading

@@ -1,0 +1,7 @@
+mod ReadingLaws
+mod Keys
+pub mod Members
+pub mod Pointers
+mod Adding
+mod Scanning
+mod Places

@@ -1,0 +1,13 @@
+//! JSON texts, looked up by pointers (RFC 6901), and JSON with comments.
+#![tactic(auto)]
+
+mod error;
+mod look;
+mod plain;
+mod pointer;
+mod view;
+
+pub use error::{JsonErr, Shape};
+pub use plain::plain_json;
+pub use pointer::pointer_to;
+pub use view::View;

@@ -1,0 +1,5 @@
+pub mod Trims
+pub mod Loops
+pub mod Planned
+pub mod OneOrder
+pub mod OnePlan

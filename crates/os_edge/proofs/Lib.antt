@@ -1,0 +1,3 @@
+pub mod PlaceLists
+pub mod PairLists
+pub mod Reading

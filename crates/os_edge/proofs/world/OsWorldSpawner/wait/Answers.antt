@@ -1,0 +1,12 @@
+use Rattle.std.specs.Prelude.{Result, Ok, Err, OnErr}
+use Rattle.os_edge.proofs.PlaceLists.{over_first}
+use Rattle.os_edge.proofs.world.OsWorldSpawner.wait.Goals as goal
+
+on_err : {A E : Type 0} (P : Type 0) (result : Result A E) → P → OnErr result P
+on_err P (Ok a) p = tt
+on_err P (Err e) p = p
+
+pub returns-in_err-end-clause-failed : goal.returns-in_err-end-clause-failed
+returns-in_err-end-clause-failed g c =
+    let taken = c.take-place.ensures in
+    on_err _ c.from_residual.result (c.take-place.result.0, over_first c.args.self.now.children c.take-place.new.self c.take-place.result.0 _ _ taken.taken taken.distinct)

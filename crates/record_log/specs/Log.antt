@@ -1,0 +1,21 @@
+-- A log as its contracts see it.
+use Rattle.std.specs.Prelude.{ℕ, Bool, List, length}
+use Rattle.store_dev.specs.declared.device.StoreDevice.{Ghosts}
+use Rattle.record_log.specs.Kinds.{Entry}
+use Rattle.record_log.specs.Frames.{frames_of}
+use Rattle.record_log.specs.declared.log.Log.{Log}
+
+abbrev pub device_of : {S : Type 0} {G : Ghosts S} → Log S G → S
+device_of log = log.device
+
+-- the frames that count, where the device tells its bytes
+abbrev pub frames_in : {S : Type 0} {G : Ghosts S} → Log S G → List Entry
+frames_in {G = G} log = frames_of (G.content log.device)
+
+-- how many of them the log knows, which are all where it is whole
+abbrev pub count_of : {S : Type 0} {G : Ghosts S} → Log S G → ℕ
+count_of log = length log.offsets.items
+
+-- it may be appended to
+abbrev pub is_whole : {S : Type 0} {G : Ghosts S} → Log S G → Bool
+is_whole log = log.whole

@@ -1,0 +1,18 @@
+//! A log of frames in a store's device. A frame counts once the gate in front of it was opened, which is one byte.
+//!
+//! The file is eight bytes of magic, one gate, and then frames one after another, each with the gate of the next one.
+//! An append writes the whole frame behind the last gate, with the next gate closed, syncs, opens the gate, and syncs. So
+//! whatever a crash leaves has the frames from before the append, or these and the new one.
+#![tactic(auto)]
+
+mod error;
+mod frame;
+mod log;
+mod open;
+mod scan;
+mod steps;
+mod window;
+
+pub use error::{LogErr, Unopened};
+pub use frame::Frame;
+pub use log::{LIMIT, Log};

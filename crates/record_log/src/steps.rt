@@ -1,0 +1,58 @@
+// What opening and appending do to a device.
+ghost use Rattle.std.specs.Prelude.{◌≡◌, ◌≢◌, ◌≤◌, ◌<◌, ◌^◌, ◌+◌, ◌++◌, List, ℕ, true, [], ◌∷◌, length, OnOk, IsErrOf};
+ghost use Rattle.rel_path.specs.Causes.{Counts};
+ghost use Rattle.store_dev.specs.Device.{Holds, Only, Torn, Elapses, LeavesOnly, SameWith, After};
+ghost use Rattle.store_dev.specs.Errors.{is_fault};
+ghost use Rattle.record_log.specs.Kinds.{entry, has_form, size};
+ghost use Rattle.record_log.specs.Frames.{AtRest, frames_of, IsBeforeOrAfter};
+
+use crate::frame::body_of;
+use std::alloc::Global;
+use store_dev::{StoreDevice, StoreErr};
+
+/// A write and a sync.
+pub fn put_synced<S: StoreDevice>(
+    alloc: Global,
+    device: &mut S,
+    at: u64,
+    bytes: &[u8],
+) -> Result<(), StoreErr>
+    requires place { S.tells → at ≤ length (S.content device.old) }
+    requires end { at + length bytes.now ≤ 2 ^ 62 }
+    ensures written { S.tells → OnOk result (Holds (S.content device.old) at bytes.now (S.content device.new) × Only (S.content device.new) (S.images device.new)) }
+    ensures memory { IsErrOf result StoreErr.OutOfMemory → SameWith (S.content device.old) (S.content device.new) (S.images device.old) (S.images device.new) }
+    ensures time { Elapses (S.moment device.old) (S.moment device.new) (S.images_since device.old) (S.images_since device.new) (After (Torn at (length bytes.now)) (S.images device.old)) }
+    ensures cause { Counts is_fault (S.store_faults device.old) (S.store_faults device.new) result }
+{
+    device.write_at(alloc, at, bytes)?;
+    device.sync()
+}
+
+/// Puts a frame behind the gate at that place, and then opens the gate.
+pub fn write_frame<S: StoreDevice>(
+    alloc: Global,
+    device: &mut S,
+    end: u64,
+    kind: u8,
+    key: &[u8],
+    value: &[u8],
+) -> Result<(), StoreErr>
+    requires narrow { kind ≢ 4 }
+    requires form { S.tells → has_form (frames_of (S.content device.old)) (entry kind key.now value.now) ≡ true }
+    requires key_len { length key.now < 2 ^ 32 }
+    requires value_len { length value.now < 2 ^ 32 }
+    requires room { end + (11 + (length key.now + length value.now)) ≤ 2 ^ 62 }
+    requires rest { S.tells → AtRest (S.content device.old) (frames_of (S.content device.old)) end }
+    requires durable { S.tells → Only (S.content device.old) (S.images device.old) }
+    ensures written { S.tells → OnOk result (AtRest (S.content device.new) (frames_of (S.content device.old) ++ entry kind key.now value.now ∷ []) (end + (size (entry kind key.now value.now) + 1))) }
+    ensures memory { S.tells → IsErrOf result StoreErr.OutOfMemory → AtRest (S.content device.new) (frames_of (S.content device.old)) end }
+    ensures durable { S.tells → OnOk result (Only (S.content device.new) (S.images device.new)) }
+    ensures memory_durable { S.tells → IsErrOf result StoreErr.OutOfMemory → Only (S.content device.new) (S.images device.new) }
+    ensures images { S.tells → LeavesOnly S.moment S.images_since device.old device.new (IsBeforeOrAfter (frames_of (S.content device.old)) (entry kind key.now value.now)) }
+    ensures cause { Counts is_fault (S.store_faults device.old) (S.store_faults device.new) result }
+{
+    let body = body_of(alloc, kind, key, value)?;
+    put_synced(alloc, device, end + 1, &body)?;
+    put_synced(alloc, device, end, &[1])?;
+    Ok(())
+}

@@ -1,0 +1,7 @@
+//! Tests of whole runs over devices in memory.
+#![tactic(auto)]
+
+mod faults;
+mod refusals;
+mod repository;
+mod runs;

@@ -1,0 +1,2 @@
+pub mod RunningLists
+pub mod Lines

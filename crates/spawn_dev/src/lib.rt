@@ -1,0 +1,16 @@
+//! Starting commands and waiting for their ends, by what it means, and a world in memory.
+#![tactic(auto)]
+
+mod book;
+mod command;
+mod effect;
+mod progress;
+mod shell;
+mod spawner;
+mod world;
+
+pub use book::{Book, Piece, Pieces, Rule};
+pub use command::{Command, Ended, Step};
+pub use shell::shell_text;
+pub use spawner::{LOG_LIMIT, Spawner};
+pub use world::MemWorld;

@@ -1,0 +1,64 @@
+// A tree in which commands run.
+ghost use Rattle.std.specs.Prelude.{◌≡◌, ◌+◌, ◌≤◌, ◌<◌, ℕ, Bool, true, false, length, IfOk, OnOk, OnErr};
+ghost use Rattle.rel_path.specs.Paths.{Path, is_among};
+ghost use Rattle.tree_dev.specs.Cause.{HasCause};
+ghost use Rattle.spawn_dev.specs.Effects.{Seen, Effect};
+ghost use Rattle.spawn_dev.specs.Spawn.{Runs, IsBusy, IsIdle, SameTree, Starts, BeginsAs, Refuses, IsOver, EndsAs, KeepsWill};
+
+use crate::{Command, Ended};
+use std::alloc::Global;
+use tree_dev::{DevErr, Tree};
+
+/// The most bytes of a log.
+pub const LOG_LIMIT: usize = 67_108_864;
+
+/// A tree in which commands run. What runs is its `runs`: the book, by which a command's effect follows from
+/// what the command sees; the places whose commands run, which holds told or not; the effect that each of
+/// these will have, which is fixed at its start; the starts and ends so far; how many commands run; and a
+/// count of faults. All of it is part of what the tree keeps beside its files, so the calls of `Tree` leave
+/// it as it is.
+pub trait Spawner: Tree {
+    ghost Book: { Type 0 };
+
+    /// What a command does that sees this.
+    ghost effect: { Book → Seen → Effect };
+
+    ghost runs: { Self → Runs Book };
+
+    /// Starts a command at a place where none runs. On an error nothing changed but the count of faults.
+    fn start(&mut self, alloc: Global, command: Command) -> Result<(), DevErr>
+        requires fresh { (runs self.old).live command.place ≡ false }
+        requires reads { (path : Path) → is_among command.reads path ≡ true → (Self.state self.old).held path ≡ false }
+        ensures tree { SameTree (Self.state self.old) (Self.state self.new) }
+        ensures book { (runs self.new).book ≡ (runs self.old).book }
+        ensures started { OnOk result (Starts command (runs self.old) (runs self.new)) }
+        ensures begins { Self.tells → OnOk result (BeginsAs effect (Self.state self.old).files command (runs self.old) (runs self.new)) }
+        ensures refused { OnErr result (Refuses (runs self.old) (runs self.new)) }
+        ensures others { KeepsWill (runs self.old) (runs self.new) }
+        ensures cause { HasCause (runs self.old).faults (runs self.new).faults result };
+
+    /// Waits for the end of a command. Which of those that run ends is free. Whatever it answers, one of
+    /// them runs no more.
+    fn wait(&mut self, alloc: Global) -> Result<Ended, DevErr>
+        requires busy { IsBusy (runs self.old) }
+        ensures tree { SameTree (Self.state self.old) (Self.state self.new) }
+        ensures book { (runs self.new).book ≡ (runs self.old).book }
+        ensures over { IfOk result (λ ended. IsOver ended.place (runs self.old) (runs self.new)) }
+        ensures ends { Self.tells → IfOk result (λ ended. EndsAs ended (runs self.old) (runs self.new)) }
+        ensures short { IfOk result (λ ended. length ended.log ≤ LOG_LIMIT) }
+        ensures failed { OnErr result ((place : ℕ) × IsOver place (runs self.old) (runs self.new)) }
+        ensures unsaid { OnErr result ((runs self.new).steps ≡ (runs self.old).steps) }
+        ensures others { KeepsWill (runs self.old) (runs self.new) }
+        ensures cause { HasCause (runs self.old).faults (runs self.new).faults result };
+
+    /// Whether no command runs.
+    fn is_idle(&self) -> bool
+        ensures idle { result ≡ true → IsIdle (runs self.now) }
+        ensures busy { result ≡ false → IsBusy (runs self.now) };
+
+    /// What runs is part of what the tree keeps.
+    ghost runs_by_rest: { (a b : Self) → (Self.state a).rest ≡ (Self.state b).rest → runs a ≡ runs b };
+
+    /// Only while a command runs may a path change.
+    ghost held_by_running: { (a : Self) → (path : Path) → (Self.state a).held path ≡ true → IsBusy (runs a) };
+}

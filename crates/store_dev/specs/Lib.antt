@@ -1,0 +1,7 @@
+pub mod Device
+pub mod Errors
+pub mod Moments
+pub mod Record
+pub mod Memory
+pub mod MemStore
+pub mod FuseStore

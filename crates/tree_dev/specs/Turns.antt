@@ -1,0 +1,22 @@
+-- Which calls of a device in memory fail.
+use Rattle.std.specs.Prelude.{◌+◌, ◌-◌, ◌^◌, min}
+use Rattle.std.specs.List.{Contains}
+use Rattle.tree_dev.specs.declared.turns.Turns.{Turns}
+use Rattle.tree_dev.specs.declared.memory.MemTree.{MemTree}
+use Rattle.tree_dev.specs.declared.sink.MemSink.{MemSink}
+
+-- the next call is one of those that fail
+abbrev pub FailsNext : Turns → Type 0
+FailsNext turns = Contains turns.fails.items turns.next
+
+-- one call later; the number stands still at the last value of a u64
+abbrev pub after : Turns → Turns
+after turns = record turns { next = min (turns.next + 1) (2 ^ 64 - 1) }
+
+-- the calls of a tree in memory
+abbrev pub tree_turns : MemTree → Turns
+tree_turns tree = tree.turns
+
+-- the calls of a sink in memory
+abbrev pub sink_turns : MemSink → Turns
+sink_turns sink = sink.turns

@@ -1,0 +1,51 @@
+-- One more part of a run.
+use Rattle.std.proofs.Common.{◌≡◌, ◌≢◌, ◌<◌, ◌+◌, ◌++◌, ◌∷◌, [], ℕ, Bool, true, false, cond, List, length, get_or, drop, refl, sym, ◌∙◌, ap, append_assoc, arith, max}
+use Rattle.std.proofs.lemmas.List.{drop_more, append-nil}
+use Rattle.std.proofs.lemmas.Bool.Decides.{nat_tests}
+use Rattle.std.specs.Prelude.{◌==◌}
+use Rattle.rel_path.specs.Files.{FileMap}
+use Rattle.spawn_dev.specs.Effects.{seen_by}
+use Rattle.spawn_dev.specs.Spawn.{put_at}
+use Rattle.spawn_dev.specs.declared.command.Command.{Command}
+use Rattle.spawn_dev.specs.declared.command.Ended.{Ended}
+use Rattle.spawn_dev.specs.declared.command.Step.TheVariants.{Start, End}
+use Rattle.literal_plan.specs.Plan.{has_script}
+use Rattle.spawn_dev.specs.Effects.{Seen, Effect}
+use Rattle.spawn_dev.specs.declared.command.Step.{Step}
+use Rattle.literal_plan.specs.declared.part.Part.{Part}
+use Rattle.turbo_app.specs.declared.outcome.Outcome.{Outcome}
+use Rattle.turbo_app.specs.declared.tally.Tally.{Tally}
+use Rattle.turbo_app.specs.Clean.{command_at, seen_of, ended_at, steps_at}
+use Rattle.turbo_app.specs.Page.{blocks, good_of, failed_of, total_of, summary, page}
+use Rattle.turbo_app.specs.Tallies.{with_all, nothing_yet}
+
+-- the command that runs alone is the one that ends
+pub alone : (old new : ℕ → Bool) (place p : ℕ) → ((q : ℕ) → old q ≡ false) → new ≡ put_at old place true → new p ≡ true → p ≡ place
+alone old new place p idle e h =
+    elim (p == place) as (λ b. (p == place) ≡ b → cond b true (old p) ≡ true → p ≡ place) [
+      | true ↦ λ t r. grind (arith, nat_tests, t)
+      | false ↦ λ t r. let none = idle p in absurd (cc)
+    ] refl (ap (λ f. f p) (sym e) ∙ h)
+
+-- a start and its end are the steps of the part
+pub one_part : (effect : Seen → Effect) (files : FileMap) (given : List (List ℕ × List ℕ)) (place : ℕ) (part : Part) (command : Command) (ended : Ended) (old started new : List Step)
+    → has_script part ≡ true → command ≡ command_at place given part → ended.place ≡ place
+    → ended.status ≡ (effect (seen_by command files)).status → ended.log ≡ (effect (seen_by command files)).log
+    → started ≡ old ++ Start command ∷ [] → new ≡ started ++ End ended ∷ []
+    → new ≡ old ++ steps_at effect files given place part
+one_part effect files given place part command ended old started new script is at status log begins ends =
+    let did = effect (seen_of files part) in
+    let same : ended ≡ ended_at place did = λ i. record {
+      place = at i;
+      status = (status ∙ ap (λ c. (effect (seen_by c files)).status) is) i;
+      log = (log ∙ ap (λ c. (effect (seen_by c files)).log) is) i;
+    } in
+    rw (ends, begins, script, same, is) (append_assoc old (Start (command_at place given part) ∷ []) (End (ended_at place did) ∷ []))
+
+-- the blocks and the summary are the page
+pub page_from : (parts : List Part) (outcomes : List Outcome) (tally : Tally) (old printed new : List ℕ) → tally ≡ with_all parts outcomes nothing_yet
+    → printed ≡ old ++ blocks parts outcomes → new ≡ printed ++ summary tally.good (total_of parts) tally.failed → new ≡ old ++ page parts outcomes
+page_from parts outcomes tally old printed new t b s =
+    let good : tally.good ≡ good_of outcomes = omega (arith, ap (λ x. x.good) t) in
+    let failed : tally.failed ≡ failed_of parts outcomes = ap (λ x. x.failed) t in
+    rw (s, b, good, failed) (append_assoc old (blocks parts outcomes) (summary (good_of outcomes) (total_of parts) (failed_of parts outcomes)))
