@@ -2,11 +2,17 @@
 #![tactic(auto)]
 
 mod generic;
+#[cfg(test)]
 mod given;
+#[cfg(test)]
 mod make;
+#[cfg(test)]
 mod scripts;
+#[cfg(test)]
 mod system;
+#[cfg(test)]
 mod trees;
+#[cfg(test)]
 mod worlds;
 
 pub use generic::{look_while_running, run_alone};

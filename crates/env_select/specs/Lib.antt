@@ -1,0 +1,5 @@
+pub mod Patterns
+pub mod Lists
+pub mod Choice
+pub mod Index
+pub mod Reach
