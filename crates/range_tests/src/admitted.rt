@@ -84,12 +84,11 @@ fn tilde_and_caret(rt: HostRuntime) -> Result<(), Fail> {
 }
 
 #[test]
-fn comparisons(rt: HostRuntime) -> Result<(), Fail> {
-    let rows: [Row; 14] = [
+fn above(rt: HostRuntime) -> Result<(), Fail> {
+    let rows: [Row; 6] = [
         (">1.2.3", &["1.2.4", "2.0.0"], &["1.2.3", "1.2.3-rc"]),
         (">1.2", &["1.3.0"], &["1.2.9"]),
         (">1", &["2.0.0"], &["1.9.9"]),
-        (">*", &[], &["0.0.0", "9.9.9"]),
         (
             ">=1.2.3-rc.1",
             &["1.2.3-rc.2", "1.2.3", "2.0.0"],
@@ -97,15 +96,35 @@ fn comparisons(rt: HostRuntime) -> Result<(), Fail> {
         ),
         (">= 1.2", &["1.2.0", "3.0.0"], &["1.1.9"]),
         (">=x", &["0.0.0"], &["0.0.0-0"]),
+    ];
+    check(&rt, rt.alloc(), &rows)
+}
+
+#[test]
+fn below(rt: HostRuntime) -> Result<(), Fail> {
+    let rows: [Row; 6] = [
         ("<1.2.3", &["1.2.2", "0.0.0"], &["1.2.3", "1.2.3-rc"]),
         ("<1.2", &["1.1.9"], &["1.2.0"]),
         ("<1", &["0.9.9"], &["1.0.0"]),
-        ("<x", &[], &["0.0.0"]),
         ("<=1.2.3", &["1.2.3"], &["1.2.4"]),
         ("<=1.2", &["1.2.9"], &["1.3.0"]),
         ("<=1", &["1.9.9"], &["2.0.0"]),
     ];
     check(&rt, rt.alloc(), &rows)
+}
+
+// `>*` and `<*` admit nothing.
+#[test]
+fn none(rt: HostRuntime) -> Result<(), Fail> {
+    let alloc = rt.alloc();
+    for text in [">*", "<x", "> X.1.2"] {
+        let range = Range::read(alloc, text)?;
+        for version in ["0.0.0", "0.0.0-0", "9.9.9"] {
+            let version = Version::parse(alloc, version)?;
+            assert!(rt; !range.admits(&version), "{text}");
+        }
+    }
+    Ok(())
 }
 
 #[test]
