@@ -1,0 +1,10 @@
+pub mod Core
+pub mod Greedy
+pub mod Inside
+pub mod Machine
+pub mod Memory
+pub mod Moves
+pub mod PlaceSets
+pub mod Sets
+pub mod Tables
+pub mod Trees
