@@ -3,9 +3,10 @@ use Rattle.std.proofs.Common.{◌≡◌, inl, ℕ, ◌+◌, ◌<◌, List, [], �
 use Rattle.std.proofs.lemmas.Bool.{lt-ltb, and_from}
 use Rattle.store_dev.specs.Device.{Torn, Holds, Only, After, Elapses, LeavesOnly}
 use Rattle.store_dev.specs.Moments.{started, goes_on}
-use Rattle.record_log.specs.Kinds.{Entry, limit_of, has_form, form, blobs, size, text}
+use Rattle.record_log.specs.Kinds.{Entry, limit_of, is_known, has_form, form, blobs, size, text, room_for}
 use Rattle.record_log.specs.Frames.{opened, starts, reading, frames_of, AtRest, IsBeforeOrAfter}
 use Rattle.record_log.specs.Kept.{Kept}
+use Rattle.record_log.specs.Forms.{limit_short, room_short, known_narrow}
 use Rattle.record_log.proofs.Wide.{length-text}
 use Rattle.record_log.proofs.Rest.{at_rest_read, body_torn, body_written, gate_torn, gate_written}
 
@@ -16,6 +17,13 @@ frames_of_is bytes fs is = rw (is, frames_of) refl
 pub formed : (fs : List Entry) (e : Entry) → form (blobs fs) e ≡ true → length e.key < limit_of e.kind → length e.value < limit_of e.kind → has_form fs e ≡ true
 unfolding has_form
 formed fs e is short_key short_value = and_from _ _ is (and_from _ _ (lt-ltb _ _ short_key) (lt-ltb _ _ short_value))
+
+-- what a frame of a known kind takes
+pub room_known : (e : Entry) → is_known e.kind ≡ true → length e.key < limit_of e.kind → length e.value < limit_of e.kind → room_for e ≡ 10 + (length e.key + length e.value)
+room_known e known key_len value_len =
+    let other = known_narrow e.kind known in
+    let limit = limit_short e.kind other in
+    room_short e other (omega (arith, key_len, limit)) (omega (arith, value_len, limit))
 
 module _ (bytes : List ℕ) (images : List ℕ → Type 0) (es : List Entry) (end : ℕ) (e : Entry) (rest : AtRest bytes es end) (only : Only bytes images) (h : has_form es e ≡ true) where
   at_start : (c : List ℕ) → images c → IsBeforeOrAfter es e c

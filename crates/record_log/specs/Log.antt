@@ -1,5 +1,5 @@
 -- A log as its contracts see it.
-use Rattle.std.specs.Prelude.{ℕ, Bool, List, length}
+use Rattle.std.specs.Prelude.{ℕ, ◌+◌, ◌-◌, ◌^◌, Bool, List, length}
 use Rattle.store_dev.specs.declared.device.StoreDevice.{Ghosts}
 use Rattle.record_log.specs.Kinds.{Entry}
 use Rattle.record_log.specs.Frames.{frames_of}
@@ -19,3 +19,7 @@ count_of log = length log.offsets.items
 -- it may be appended to
 abbrev pub is_whole : {S : Type 0} {G : Ghosts S} → Log S G → Bool
 is_whole log = log.whole
+
+-- how many bytes more its frames may take: what is left of 2^32 behind the last gate
+abbrev pub room_of : {S : Type 0} {G : Ghosts S} → Log S G → ℕ
+room_of log = 2 ^ 32 - (log.end + 1)

@@ -31,7 +31,7 @@ impl<S: StoreDevice> Log<S> {
     ghost use Rattle.store_dev.specs.Device.{LeavesOnly, Only, OnlyReads};
     ghost use Rattle.record_log.specs.Kinds.{entry, limit_of, is_known, form, blobs, room_for};
     ghost use Rattle.record_log.specs.Frames.{frames_of, reading, IsAt, IsBeforeOrAfter, IsOpenedAs, ReadsAsOneOf, ends};
-    ghost use Rattle.record_log.specs.Log.{device_of, frames_in, count_of, is_whole};
+    ghost use Rattle.record_log.specs.Log.{device_of, frames_in, count_of, is_whole, room_of};
     ghost use Rattle.record_log.specs.Answers.{is_fault, IsOpenErr, IsAppendErr, IsReadErr, IsFaultOf, raised, entry_of, WholeAfter, IsFullWhere};
 
     /// Opens a device as a log, whose frames are those that the device holds. At most nine bytes are an empty store,
@@ -89,6 +89,14 @@ impl<S: StoreDevice> Log<S> {
         self.offsets.len() as u64
     }
 
+    /// How many bytes more the frames may take, each with the gate behind it.
+    pub fn room(&self) -> u64
+        ensures room { result ≡ room_of self.now }
+        ensures frames { IsTrue (is_whole self.now) → S.tells → result ≡ LIMIT - ends (frames_in self.now) }
+    {
+        LIMIT.saturating_sub(self.end + 1)
+    }
+
     /// The frame with that number.
     pub fn frame_at(&mut self, alloc: Global, number: u64) -> Result<Frame, LogErr>
         requires { number < count_of self.old }
@@ -96,6 +104,7 @@ impl<S: StoreDevice> Log<S> {
         ensures reads { OnlyReads S.content S.images S.moment S.images_since (device_of self.old) (device_of self.new) }
         ensures whole { is_whole self.new ≡ is_whole self.old }
         ensures count { count_of self.new ≡ count_of self.old }
+        ensures room { room_of self.new ≡ room_of self.old }
         ensures answers { IfErr result IsReadErr }
         ensures cause { Counts is_fault (S.store_faults (device_of self.old)) (S.store_faults (device_of self.new)) result }
     {
@@ -126,6 +135,8 @@ impl<S: StoreDevice> Log<S> {
         ensures same_count { OnErr result (count_of self.new ≡ count_of self.old) }
         ensures whole { WholeAfter result (is_whole self.old) (is_whole self.new) }
 
+        ensures room { room_of self.new ≤ room_of self.old }
+        ensures limit { IsFullWhere result (room_for (entry kind key.now value.now)) (room_of self.old) }
         ensures full { S.tells → IsFullWhere result (room_for (entry kind key.now value.now)) (LIMIT - ends (frames_in self.old)) }
         ensures answers { IfErr result IsAppendErr }
         ensures cause { Counts is_fault (S.store_faults (device_of self.old)) (S.store_faults (device_of self.new)) result }
@@ -136,7 +147,7 @@ impl<S: StoreDevice> Log<S> {
         ensures durable { S.tells → OnOk result (Only (S.content (device_of self.new)) (S.images (device_of self.new))) }
     {
         let need = 10 + (key.len() as u64 + value.len() as u64);
-        let free = LIMIT.saturating_sub(self.end + 1);
+        let free = self.room();
         if need > free {
             return Err(LogErr::Full { need, free });
         }

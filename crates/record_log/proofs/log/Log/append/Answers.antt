@@ -7,9 +7,10 @@ use Rattle.record_log.specs.Kinds.{entry, room_for, size}
 use Rattle.record_log.specs.Frames.{frames_of, ends, AtRest}
 use Rattle.record_log.specs.Answers.{IsFullWhere}
 use Rattle.record_log.specs.Kept.{Kept}
-use Rattle.record_log.specs.Forms.{limit_short, size_short, room_short, known_narrow}
+use Rattle.record_log.specs.Forms.{size_short, known_narrow}
+use Rattle.record_log.specs.Log.{room_of}
 use Rattle.record_log.proofs.Rest.{at_rest_read}
-use Rattle.record_log.proofs.Appending.{frames_of_is, formed, kept_push, kept_same, length-starts}
+use Rattle.record_log.proofs.Appending.{frames_of_is, formed, room_known, kept_push, kept_same, length-starts}
 use Rattle.record_log.proofs.Places.{kept_front, failed_front}
 use Rattle.record_log.proofs.log.Log.append.Goals as goal
 
@@ -18,11 +19,8 @@ returns-then-need-free-clause-full g c told =
     let log = c.args.self.now in
     let e = entry c.args.kind c.args.key.now c.args.value.now in
     let es = frames_of (g.S.StoreDevice.content log.device) in
-    let kept = log.kept c.requires.whole told in
-    let other = known_narrow c.args.kind c.requires.known in
-    let limit = limit_short c.args.kind other in
-    let need : room_for e ≡ 10 + (length e.key + length e.value) = room_short e other (omega (arith, c.requires.key_len, limit)) (omega (arith, c.requires.value_len, limit)) in
-    let free : c.saturating_sub-free.result ≡ 4294967296 - ends es = omega (arith, c.saturating_sub-free.ensures, kept.rest.place) in
+    let need = room_known e c.requires.known c.requires.key_len c.requires.value_len in
+    let free : c.room-free.result ≡ 4294967296 - ends es = c.room-free.ensures.frames c.requires.whole told in
     (sym need, free, omega (arith, need, free))
 
 pub returns-in_err-reserve-clause-full : goal.returns-in_err-reserve-clause-full
@@ -30,14 +28,43 @@ returns-in_err-reserve-clause-full g c told =
     let log = c.args.self.now in
     let e = entry c.args.kind c.args.key.now c.args.value.now in
     let es = frames_of (g.S.StoreDevice.content log.device) in
-    let kept = log.kept c.requires.whole told in
-    let other = known_narrow c.args.kind c.requires.known in
-    let limit = limit_short c.args.kind other in
-    let need : room_for e ≡ 10 + (length e.key + length e.value) = room_short e other (omega (arith, c.requires.key_len, limit)) (omega (arith, c.requires.value_len, limit)) in
-    let free : c.saturating_sub-free.result ≡ 4294967296 - ends es = omega (arith, c.saturating_sub-free.ensures, kept.rest.place) in
+    let need = room_known e c.requires.known c.requires.key_len c.requires.value_len in
+    let free : c.room-free.result ≡ 4294967296 - ends es = c.room-free.ensures.frames c.requires.whole told in
     let is : c.from_residual.result ≡ Err errors.OutOfMemory = search rules in
     let fits : room_for e ≤ 4294967296 - ends es = omega (arith, need, free) in
     subst (λ (r : Result ℕ LogErr). IsFullWhere r (room_for e) (4294967296 - ends es)) (sym is) fits
+
+pub returns-then-need-free-clause-limit : goal.returns-then-need-free-clause-limit
+returns-then-need-free-clause-limit g c =
+    let e = entry c.args.kind c.args.key.now c.args.value.now in
+    let need = room_known e c.requires.known c.requires.key_len c.requires.value_len in
+    (sym need, c.room-free.ensures.room, omega (arith, need, c.room-free.ensures.room))
+
+pub returns-in_err-reserve-clause-limit : goal.returns-in_err-reserve-clause-limit
+returns-in_err-reserve-clause-limit g c =
+    let e = entry c.args.kind c.args.key.now c.args.value.now in
+    let need = room_known e c.requires.known c.requires.key_len c.requires.value_len in
+    let is : c.from_residual.result ≡ Err errors.OutOfMemory = search rules in
+    let fits : room_for e ≤ room_of c.args.self.now = omega (arith, need, c.room-free.ensures.room) in
+    subst (λ (r : Result ℕ LogErr). IsFullWhere r (room_for e) (room_of c.args.self.now)) (sym is) fits
+
+pub returns-in_ok-push-in-Ok-clause-limit : goal.returns-in_ok-push-in-Ok-clause-limit
+returns-in_ok-push-in-Ok-clause-limit g c =
+    let e = entry c.args.kind c.args.key.now c.args.value.now in
+    let need = room_known e c.requires.known c.requires.key_len c.requires.value_len in
+    omega (arith, need, c.room-free.ensures.room)
+
+pub returns-in-Err-Failed-clause-limit : goal.returns-in-Err-Failed-clause-limit
+returns-in-Err-Failed-clause-limit g c =
+    let e = entry c.args.kind c.args.key.now c.args.value.now in
+    let need = room_known e c.requires.known c.requires.key_len c.requires.value_len in
+    omega (arith, need, c.room-free.ensures.room)
+
+pub returns-in-Err-OutOfMemory-clause-limit : goal.returns-in-Err-OutOfMemory-clause-limit
+returns-in-Err-OutOfMemory-clause-limit g c =
+    let e = entry c.args.kind c.args.key.now c.args.value.now in
+    let need = room_known e c.requires.known c.requires.key_len c.requires.value_len in
+    omega (arith, need, c.room-free.ensures.room)
 
 pub write_frame-requires-clause-form : goal.write_frame-requires-clause-form
 write_frame-requires-clause-form g c told =
@@ -93,11 +120,8 @@ returns-in-Err-Failed-clause-full g c told =
     let log = c.args.self.now in
     let e = entry c.args.kind c.args.key.now c.args.value.now in
     let es = frames_of (g.S.StoreDevice.content log.device) in
-    let kept = log.kept c.requires.whole told in
-    let other = known_narrow c.args.kind c.requires.known in
-    let limit = limit_short c.args.kind other in
-    let need : room_for e ≡ 10 + (length e.key + length e.value) = room_short e other (omega (arith, c.requires.key_len, limit)) (omega (arith, c.requires.value_len, limit)) in
-    let free : c.saturating_sub-free.result ≡ 4294967296 - ends es = omega (arith, c.saturating_sub-free.ensures, kept.rest.place) in
+    let need = room_known e c.requires.known c.requires.key_len c.requires.value_len in
+    let free : c.room-free.result ≡ 4294967296 - ends es = c.room-free.ensures.frames c.requires.whole told in
     omega (arith, need, free)
 
 pub returns-in-Err-OutOfMemory-clause-unchanged : goal.returns-in-Err-OutOfMemory-clause-unchanged
@@ -110,11 +134,8 @@ returns-in-Err-OutOfMemory-clause-full g c told =
     let log = c.args.self.now in
     let e = entry c.args.kind c.args.key.now c.args.value.now in
     let es = frames_of (g.S.StoreDevice.content log.device) in
-    let kept = log.kept c.requires.whole told in
-    let other = known_narrow c.args.kind c.requires.known in
-    let limit = limit_short c.args.kind other in
-    let need : room_for e ≡ 10 + (length e.key + length e.value) = room_short e other (omega (arith, c.requires.key_len, limit)) (omega (arith, c.requires.value_len, limit)) in
-    let free : c.saturating_sub-free.result ≡ 4294967296 - ends es = omega (arith, c.saturating_sub-free.ensures, kept.rest.place) in
+    let need = room_known e c.requires.known c.requires.key_len c.requires.value_len in
+    let free : c.room-free.result ≡ 4294967296 - ends es = c.room-free.ensures.frames c.requires.whole told in
     omega (arith, need, free)
 
 pub returns-in_ok-push-in-Ok-clause-place : goal.returns-in_ok-push-in-Ok-clause-place

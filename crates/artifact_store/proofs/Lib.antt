@@ -1,0 +1,2 @@
+mod Carry
+mod Search

@@ -1,0 +1,42 @@
+-- When a store answers what.
+use Rattle.std.specs.Prelude.{◌≡◌, ◌<◌, ◌≤◌, ℕ, Bool, true, false, Result, Err}
+use Rattle.record_log.specs.Frames.{Fault}
+use Rattle.record_log.specs.Frames.Fault.{NotAStore as NoStore, Damaged as DamagedAt}
+use Rattle.record_log.specs.declared.error.LogErr.{LogErr}
+use Rattle.record_log.specs.declared.error.LogErr.TheVariants as log
+use Rattle.cache_api.specs.declared.error.CacheErr.{CacheErr}
+use Rattle.cache_api.specs.declared.error.CacheErr.TheVariants as cache
+use Rattle.artifact_store.specs.declared.error.OpenErr.{OpenErr}
+use Rattle.artifact_store.specs.declared.error.OpenErr.TheVariants.{NotAStore, Damaged, Failed, OutOfMemory}
+
+-- a log's error at its opening as a store's; a log is never full then
+abbrev pub opens_as : LogErr → OpenErr
+opens_as log.NotAStore = NotAStore
+opens_as (log.Damaged at) = Damaged at
+opens_as log.Failed = Failed
+opens_as _ = OutOfMemory
+
+-- the device failed, which it counts
+abbrev pub is_fault : OpenErr → Bool
+is_fault Failed = true
+is_fault _ = false
+
+-- an error as a result
+abbrev pub raised : OpenErr → Result (Unit {0}) OpenErr
+raised e = Err e
+
+-- `NotAStore` and `Damaged` come as the reading of the bytes says
+abbrev pub IsFaultOf : {A : Type 0} → OpenErr → Result A Fault → Type 0
+IsFaultOf NotAStore read = read ≡ Err NoStore
+IsFaultOf (Damaged at) read = read ≡ Err (DamagedAt at)
+IsFaultOf _ read = Unit {0}
+
+-- after a fault the store is not whole, and every other answer leaves that as it is
+abbrev pub WholeAfter : {T : Type 0} → Result T CacheErr → Bool → Bool → Type 0
+WholeAfter (Err cache.Failed) before now = now ≡ false
+WholeAfter _ before now = now ≡ before
+
+-- `Full` comes exactly where more is needed than is free
+abbrev pub IsFullWhere : {T : Type 0} → Result T CacheErr → ℕ → ℕ → Type 0
+IsFullWhere (Err cache.Full) need free = free < need
+IsFullWhere _ need free = need ≤ free

@@ -1,0 +1,4 @@
+pub mod Pairs
+pub mod Answers
+pub mod Store
+pub mod Laws

@@ -1,0 +1,12 @@
+//! A cache in a log: each pair is a frame of kind 1, its key whole and the text of its artifact.
+//!
+//! [`Store`] opens a device as a log and is a [`Cache`](cache_api::Cache) over it. `specs/` says which pairs the bytes of
+//! a store stand for (`Pairs`), what a store is to its callers (`Store`), and when it answers what (`Answers`).
+#![tactic(auto)]
+
+mod error;
+mod frames;
+mod store;
+
+pub use error::OpenErr;
+pub use store::Store;

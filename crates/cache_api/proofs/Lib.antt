@@ -1,0 +1,4 @@
+mod Paths
+mod Text
+mod Only
+mod Steps
