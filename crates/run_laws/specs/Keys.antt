@@ -1,0 +1,20 @@
+-- Under which text the result of a task is kept, and which results can be kept (Turborepo docs, "Caching": results
+-- are kept under a hash of all that they depend on; here the whole text counts and not only its hash).
+use Rattle.std.specs.Prelude.{ℕ, List}
+use Rattle.listing.specs.KeyText.{key_text}
+use Rattle.listing.specs.declared.part.Listing.{Listing}
+use Rattle.run_laws.specs.declared.outcome.Effect.{Effect}
+use Rattle.run_laws.specs.Closures.{closure}
+use Rattle.run_laws.specs.Effects.{Seen, Book}
+use Rattle.cache_api.specs.Artifacts.{Artifact, IsTold}
+
+-- the key text of the task and its ancestors
+abbrev pub key_of : Listing → ℕ → List ℕ
+key_of l i = key_text (closure l i)
+
+abbrev pub artifact_of : Effect → Artifact
+artifact_of effect = (effect.log, effect.files)
+
+-- no command writes a text or list of 2^32 or more bytes or members, nor a path that is none
+abbrev pub IsStorable : Book → Type 0
+IsStorable book = (seen : Seen) → IsTold (artifact_of (book seen))
