@@ -4,3 +4,4 @@ pub mod Lists
 pub mod Entries
 pub mod Outputs
 pub mod OutLaws
+pub mod OwnedFiles

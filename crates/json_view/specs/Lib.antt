@@ -5,3 +5,4 @@ pub mod Reading
 pub mod Shape
 pub mod Plain
 pub mod Waiting
+pub mod Pairs

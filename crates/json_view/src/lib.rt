@@ -3,11 +3,13 @@
 
 mod error;
 mod look;
+mod pairs;
 mod plain;
 mod pointer;
 mod view;
 
 pub use error::{JsonErr, Shape};
+pub use pairs::pairs_of;
 pub use plain::plain_json;
 pub use pointer::pointer_to;
 pub use view::View;

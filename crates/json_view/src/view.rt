@@ -8,11 +8,13 @@ ghost use Rattle.serde_json.specs.View.{view};
 ghost use Rattle.json_view.specs.Reading.{reading, behind_mark};
 ghost use Rattle.json_view.specs.Look.{text_in, texts_in, flag_in, whole_in, keys_in, value_in, Else};
 ghost use Rattle.json_view.specs.Pointer.{AreNamesAt};
+ghost use Rattle.json_view.specs.Pairs.{pairs_in, MayFail, AscendByName};
 ghost use Rattle.json_view.specs.Answer.{data_of, Reads, Answers};
 
 use crate::look::{keys_of, texts_of, wrong};
+use crate::pairs::pairs_of;
 use crate::{JsonErr, Shape};
-use rel_path::{Text, Texts};
+use rel_path::{Pairs, Text, Texts};
 use serde_json::Value;
 use std::alloc::Global;
 
@@ -124,6 +126,19 @@ impl View {
         }
     }
 
+    /// The names and texts of the object of texts at the pointer, ascending by name. `WrongKind` comes for
+    /// something else than an object, and at the least pointer to a member that is no text.
+    #[tactic(auto, unfolding(crate::specs::Pairs::pairs_in))]
+    pub fn pairs_at(&self, alloc: Global, pointer: &str) -> Result<Option<Pairs>, JsonErr>
+        ensures pairs { MayFail (pairs_in pointer.now (data_of self.now)) result }
+        ensures ascending { IfOk result (λ o. IfSome o AscendByName) }
+    {
+        match self.value.pointer(pointer) {
+            None => Ok(None),
+            Some(value) => Ok(Some(pairs_of(alloc, pointer, value)?)),
+        }
+    }
+
     /// The value at the pointer, of whatever kind. It is never an error, and takes no memory.
     #[tactic(auto, unfolding(crate::specs::Look::value_in))]
     pub fn value_at(&self, pointer: &str) -> Result<Option<&Value>, JsonErr>
@@ -131,6 +146,13 @@ impl View {
             (λ found. option_map (λ v. view v.now) found ≡ value_in pointer.now (data_of self.now)) (λ e. ⊥) }
     {
         Ok(self.value.pointer(pointer))
+    }
+
+    /// The value itself.
+    pub fn into_value(self) -> Value
+        ensures { view result ≡ data_of self }
+    {
+        self.value
     }
 }
 

@@ -12,7 +12,8 @@ use Rattle.run_laws.specs.Clean.{clean}
 use Rattle.cache_api.specs.Artifacts.{Artifact}
 use Rattle.cache_api.specs.Reading.{ReadsOnly, artifact_in}
 use Rattle.run_laws.specs.Pairs.{IsGood, due_pair, IsDue}
-use Rattle.run_laws.specs.Worlds.{Stage, seen_in, cleared, restored, logged, is_finished, is_touched, put_at, status_in, Holds}
+use Rattle.run_laws.specs.Worlds.{Stage, seen_in, logged, is_finished, is_touched, put_at, status_in, Holds}
+use Rattle.globs.specs.OwnedFiles.{cleared, restored}
 use Rattle.run_laws.specs.Runs.{Setting, Progress, Move, Allows, after, opening, Leads, IsReady, mark_at, puts_of, effect_in, clean_pair, RunLaw}
 use Rattle.run_laws.specs.Worlds.Stage.{Running, Finished}
 use Rattle.run_laws.specs.Runs.Move.{Pass, Replay, Start, End}

@@ -16,7 +16,8 @@ use Rattle.run_laws.specs.Closures.{names}
 use Rattle.run_laws.specs.Effects.{Book, IsWellBehaved}
 use Rattle.run_laws.specs.Clean.{skips, is_bad, written, seen, outcome, clean, outcome_in}
 use Rattle.run_laws.specs.Plans.{log_path, AreApart}
-use Rattle.run_laws.specs.Worlds.{seen_in, cleared, restored, logged, Stage, Stages, is_finished, is_touched, is_well, put_at, status_in, log_in, IsOther, Holds, Shows}
+use Rattle.run_laws.specs.Worlds.{seen_in, logged, Stage, Stages, is_finished, is_touched, is_well, put_at, status_in, log_in, IsOther, Holds, Shows}
+use Rattle.globs.specs.OwnedFiles.{cleared, restored}
 use Rattle.run_laws.specs.WorldLaws.{IsReadyFor, StepsLaw, LeavesLaw}
 use Rattle.run_laws.specs.Worlds.Stage.{Untouched, Running, Finished}
 use Rattle.run_laws.proofs.ListFacts.{any_none, all_members}

@@ -22,7 +22,8 @@ use Rattle.run_laws.specs.declared.mark.Mark.{Mark}
 use Rattle.run_laws.specs.declared.mark.Mark.TheVariants.{Hit}
 use Rattle.run_laws.specs.Marks.{found_for, mark, is_to_run}
 use Rattle.run_laws.specs.Plans.{AreApart}
-use Rattle.run_laws.specs.Worlds.{Stages, seen_in, cleared, restored, logged, is_finished, is_well, put_at, Holds, Leaves}
+use Rattle.run_laws.specs.Worlds.{Stages, seen_in, logged, is_finished, is_well, put_at, Holds, Leaves}
+use Rattle.globs.specs.OwnedFiles.{cleared, restored}
 use Rattle.run_laws.specs.Worlds.Stage.{Untouched, Running, Finished}
 
 -- ---- runs

@@ -14,7 +14,8 @@ use Rattle.run_laws.specs.Closures.{names}
 use Rattle.run_laws.specs.Effects.{Book, IsWellBehaved}
 use Rattle.run_laws.specs.Clean.{skips, is_bad, written, clean, outcome_in}
 use Rattle.run_laws.specs.Plans.{AreApart}
-use Rattle.run_laws.specs.Worlds.{is_read, seen_in, cleared, restored, logged, Stages, is_finished, is_well, put_at, Holds, Leaves}
+use Rattle.run_laws.specs.Worlds.{is_read, seen_in, logged, Stages, is_finished, is_well, put_at, Holds, Leaves}
+use Rattle.globs.specs.OwnedFiles.{cleared, restored}
 use Rattle.run_laws.specs.Worlds.Stage.{Untouched, Running, Finished}
 
 -- The inputs of the task and its ancestors stand there, and of each ancestor with a script exactly the files that

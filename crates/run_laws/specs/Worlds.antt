@@ -49,14 +49,6 @@ seen_in l i world =
 
 -- ---- what a run does to files
 
--- the owned files are removed
-abbrev pub cleared : OutSet → FileMap → FileMap
-cleared outs world = λ path. if takes outs path then None else world path
-
--- the owned files are these
-abbrev pub restored : OutSet → List (Path × List ℕ) → FileMap → FileMap
-restored outs files world = λ path. if takes outs path then file_at files path else world path
-
 -- the log is kept in the task's log file
 abbrev pub logged : Part → List ℕ → FileMap → FileMap
 logged part log world = λ path. if path_eq path (log_path part) then Some log else world path

@@ -7,7 +7,7 @@ use Rattle.rel_path.specs.Files.{file_at, over}
 use Rattle.rel_path.proofs.PathLaws.{path_same}
 use Rattle.globs.specs.declared.out_set.OutSet.{OutSet}
 use Rattle.globs.specs.Outputs.{takes}
-use Rattle.run_laws.specs.Worlds.{cleared}
+use Rattle.globs.specs.OwnedFiles.{cleared}
 
 abbrev nothing : Option (List ℕ)
 nothing = None

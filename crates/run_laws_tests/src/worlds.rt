@@ -5,7 +5,7 @@ ghost use Rattle.rel_path.specs.Paths.{Path};
 ghost use Rattle.rel_path.specs.Files.{file_at, over};
 ghost use Rattle.globs.specs.Outputs.{takes};
 ghost use Rattle.run_laws.specs.Plans.{spelled, log_name};
-ghost use Rattle.run_laws.specs.Worlds.{cleared};
+ghost use Rattle.globs.specs.OwnedFiles.{cleared};
 
 use globs::OutSet;
 use rel_path::{Bytes, Files, PathErr, RelPath, Text};

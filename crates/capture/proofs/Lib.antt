@@ -1,0 +1,5 @@
+mod Owns
+mod Puts
+mod Readings
+mod Takings
+mod Ascents

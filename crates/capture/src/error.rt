@@ -1,0 +1,45 @@
+// Why owned files were not cleared, taken or restored.
+ghost use Rattle.std.specs.Prelude.{◌≡◌};
+ghost use Rattle.capture.specs.declared.error.CapErr.TheVariants.{Failed, OutOfMemory};
+ghost use Rattle.capture.specs.Cause.{as_device};
+
+use rel_path::{PathErr, RelPath};
+use thiserror::Error;
+use tree_dev::DevErr;
+use tree_walk::WalkErr;
+
+/// Why owned files were not cleared, taken or restored.
+#[derive(Debug, Drop, Error)]
+pub enum CapErr {
+    /// The task and another one of its package declare this file.
+    #[error("a file is shared")]
+    Shared { path: RelPath },
+    /// This owned file is over the limit.
+    #[error("a file is too large")]
+    TooLarge { path: RelPath },
+    /// The tree failed.
+    #[error("a file could not be read or written")]
+    Failed,
+    #[error("out of memory")]
+    OutOfMemory,
+}
+
+// For calls whose only error is want of memory.
+impl From<PathErr> for CapErr {
+    ghost from_gives = { λ _ e. e ≡ OutOfMemory };
+
+    fn from(_error: PathErr) -> CapErr {
+        CapErr::OutOfMemory
+    }
+}
+
+impl From<DevErr> for CapErr {
+    ghost from_gives = { λ error e. e ≡ as_device error };
+
+    fn from(error: DevErr) -> CapErr {
+        match error {
+            DevErr::Failed => CapErr::Failed,
+            DevErr::OutOfMemory => CapErr::OutOfMemory,
+        }
+    }
+}

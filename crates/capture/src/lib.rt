@@ -1,0 +1,14 @@
+//! The files that a task owns, out of a tree and into it: they are removed before its command runs and before a stored
+//! result is put back, and taken as its result when it has ended.
+#![tactic(auto)]
+
+mod choices;
+mod clearing;
+mod error;
+mod restoring;
+mod taking;
+
+pub use clearing::clear;
+pub use error::CapErr;
+pub use restoring::restore;
+pub use taking::take;

@@ -1,0 +1,3 @@
+pub mod Traversal
+pub mod Cause
+pub mod Walked
