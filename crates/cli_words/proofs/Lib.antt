@@ -1,0 +1,6 @@
+mod Cuts
+mod Widths
+mod Spellings
+mod ReadOn
+mod Uses
+mod Steps

@@ -1,0 +1,6 @@
+pub mod Options
+pub mod Grammar
+pub mod Orders
+pub mod Answers
+pub mod Table
+pub mod Reading
