@@ -1,0 +1,4 @@
+mod Lookups
+mod Chain
+mod Keys
+mod Reading
