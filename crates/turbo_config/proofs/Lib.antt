@@ -1,0 +1,4 @@
+mod Hashes
+mod Prefixes
+mod Gains
+mod Listed

@@ -1,0 +1,218 @@
+-- What is read has lists of globs that read.
+use Rattle.std.proofs.Common.{◌≡◌, ◌==◌, ◌+◌, ℕ, Bool, true, false, cond, List, [], ◌∷◌, Option, Some, None, Result, Ok, Err, Ordering, Less, Equal, Greater, refl, subst}
+use Rattle.std.specs.Prelude.{unwrap_or}
+use Rattle.std.specs.Option.{IfSome, option_copied}
+use Rattle.std.specs.Borrow.{Bor}
+use Rattle.std.specs.Map.{lookup}
+use Rattle.std.specs.Ordering.{match_ordering}
+use Rattle.std.specs.BTreeMap.{insert_entry}
+use Rattle.serde_json.specs.Data.{Data, Members, no_members, member}
+use Rattle.key_table.specs.declared.row.Kind.{Kind}
+use Rattle.key_table.specs.declared.row.Kind.TheVariants as shape
+use Rattle.key_table.specs.Entry.{Entry as Key, entry_named}
+use Rattle.json_view.specs.Pointer.{pointer_to}
+use Rattle.rel_path.specs.Paths.{name_cmp}
+use Rattle.glob_syntax.specs.declared.error.GlobErr.{GlobErr}
+use Rattle.globs.specs.Lists.{fault_in, at_index, list_fault}
+use Rattle.turbo_config.specs.declared.error.ConfigErr.{ConfigErr}
+use Rattle.turbo_config.specs.declared.entry.Entry.{Entry}
+use Rattle.turbo_config.specs.declared.files.Globals.{Globals}
+use Rattle.turbo_config.specs.declared.tasks.FileKind.{FileKind}
+use Rattle.turbo_config.specs.declared.glob_fault.ListKind.{ListKind}
+use Rattle.turbo_config.specs.declared.glob_fault.ListKind.TheVariants as kind
+use Rattle.turbo_config.specs.declared.keys.TheConstants.{DEPENDS_ON, INPUTS, OUTPUTS, ENV, PASS, CACHE, PERSISTENT, INTERACTIVE, ENV_MODE, GLOBAL_INPUTS, GLOBAL_ENV, GLOBAL_PASS}
+use Rattle.turbo_config.specs.Answers.{◌>>=◌, unless}
+use Rattle.turbo_config.specs.Keys.{task_keys, top_keys}
+use Rattle.turbo_config.specs.Globs.{input_fault, glob_fault, fault_of, item_at, fault_of_item, first_glob_fault}
+use Rattle.turbo_config.specs.Values.{flag_at, texts_at, list_at, members_at, log_mode_at, env_mode_at}
+use Rattle.turbo_config.specs.Entries.{no_keys, or_else, over, def_of}
+use Rattle.turbo_config.specs.Reads.{AreGlobs, AreInputs, AreOfKind, EntryReads, DefReads, EntriesRead}
+use Rattle.turbo_config.specs.Tasks.{list_kind, with_list, with_flag, with_value, with_key, with_member, with_members, key_fault, task_pointer, entry_at, task_in}
+use Rattle.turbo_config.specs.Files.{no_globals, with_top_key, with_top_member, with_top_members, globals_in}
+
+-- ---- steps that were Ok
+
+from_ok : {A B : Type 0} (r : Result A ConfigErr) (next : A → Result B ConfigErr) (out : B) → (r >>= next) ≡ Ok out → (a : A) × (r ≡ Ok a) × (next a ≡ Ok out)
+from_ok (Ok a) next out e = (a, refl, e)
+from_ok (Err x) next out e = absurd (cc)
+
+from_unless : {A : Type 0} (fault : Option ConfigErr) (rest : Result A ConfigErr) (out : A) → unless fault rest ≡ Ok out → (fault ≡ None) × (rest ≡ Ok out)
+from_unless None rest out e = (refl, e)
+from_unless (Some x) rest out e = absurd (cc)
+
+-- ---- one list
+
+inputs_read : (at : List ℕ) (n : ℕ) (texts : List (List ℕ)) → first_glob_fault (fault_of kind.Inputs) at n texts ≡ None → AreInputs texts
+inputs_read at n [] e = tt
+inputs_read at n (text ∷ texts) e = by (input_fault text) refl (inputs_read at (n + 1) texts) e
+  where
+    by : (o : Option GlobErr) → input_fault text ≡ o → (first_glob_fault (fault_of kind.Inputs) at (n + 1) texts ≡ None → AreInputs texts) → fault_of_item (item_at at n) o (first_glob_fault (fault_of kind.Inputs) at (n + 1) texts) ≡ None → (input_fault text ≡ None) × AreInputs texts
+    by None is rest e = (is, rest e)
+    by (Some fault) is rest e = absurd (cc)
+
+globs_read : (at : List ℕ) (n k : ℕ) (texts : List (List ℕ)) → first_glob_fault (fault_of kind.Globs) at n texts ≡ None → list_fault k texts ≡ None
+unfolding glob_fault
+globs_read at n k [] e = refl
+globs_read at n k (text ∷ texts) e = by (fault_in text) (globs_read at (n + 1) (k + 1) texts) e
+  where
+    by : (o : Option GlobErr) → (first_glob_fault (fault_of kind.Globs) at (n + 1) texts ≡ None → list_fault (k + 1) texts ≡ None) → fault_of_item (item_at at n) o (first_glob_fault (fault_of kind.Globs) at (n + 1) texts) ≡ None → at_index k o (list_fault (k + 1) texts) ≡ None
+    by None rest e = rest e
+    by (Some fault) rest e = absurd (cc)
+
+kind_reads : (k : ListKind) (at : List ℕ) (texts : List (List ℕ)) → first_glob_fault (fault_of k) at 0 texts ≡ None → AreOfKind k texts
+kind_reads kind.Texts at texts e = tt
+kind_reads kind.Globs at texts e = globs_read at 0 0 texts e
+kind_reads kind.Inputs at texts e = inputs_read at 0 texts e
+
+list_reads : (k : ListKind) (at : List ℕ) (d : Data) (texts : List (List ℕ)) → list_at k at d ≡ Ok texts → AreOfKind k texts
+unfolding list_at
+list_reads k at d texts e =
+    let s = from_ok (texts_at at d) (λ read. unless (first_glob_fault (fault_of k) at 0 read) (Ok read)) texts e in
+    let t = from_unless (first_glob_fault (fault_of k) at 0 s.0) (Ok s.0) texts s.2 in
+    let same : s.0 ≡ texts = cc in
+    subst (AreOfKind k) same (kind_reads k at s.0 t.0)
+
+-- ---- one key of a task
+
+list_by_place : (d i o v p : Bool) (texts : List (List ℕ)) (e : Entry) → EntryReads e → AreOfKind (cond i kind.Inputs (cond o kind.Globs kind.Texts)) texts
+    → EntryReads (cond d (record e { depends_on = Some texts }) (cond i (record e { inputs = Some texts }) (cond o (record e { outputs = Some texts }) (cond v (record e { env = Some texts }) (cond p (record e { pass = Some texts }) (record e { with_tasks = Some texts }))))))
+list_by_place true i o v p texts e h k = h
+list_by_place false true o v p texts e h k = (k, h.1)
+list_by_place false false true v p texts e h k = (h.0, k)
+list_by_place false false false true p texts e h k = h
+list_by_place false false false false true texts e h k = h
+list_by_place false false false false false texts e h k = h
+
+flag_by_place : (c p i flag : Bool) (e : Entry) → EntryReads e
+    → EntryReads (cond c (record e { cache = Some flag }) (cond p (record e { persistent = Some flag }) (cond i (record e { interactive = Some flag }) (record e { interruptible = Some flag }))))
+flag_by_place true p i flag e h = h
+flag_by_place false true i flag e h = h
+flag_by_place false false true flag e h = h
+flag_by_place false false false flag e h = h
+
+list_keeps : (place : ℕ) (at : List ℕ) (d : Data) (e out : Entry) → EntryReads e → (list_at (list_kind place) at d >>= λ texts. Ok (with_list place texts e)) ≡ Ok out → EntryReads out
+list_keeps place at d e out h r =
+    let s = from_ok (list_at (list_kind place) at d) (λ texts. Ok (with_list place texts e)) out r in
+    let same : with_list place s.0 e ≡ out = cc in
+    subst EntryReads same (list_by_place (place == DEPENDS_ON) (place == INPUTS) (place == OUTPUTS) (place == ENV) (place == PASS) s.0 e h (list_reads (list_kind place) at d s.0 s.1))
+
+value_keeps : (k : Kind) (place : ℕ) (at : List ℕ) (d : Data) (e out : Entry) → EntryReads e → with_value k place at d e ≡ Ok out → EntryReads out
+value_keeps shape.Flag place at d e out h r =
+    let s = from_ok (flag_at at d) (λ flag. Ok (with_flag place flag e)) out r in
+    let same : with_flag place s.0 e ≡ out = cc in
+    subst EntryReads same (flag_by_place (place == CACHE) (place == PERSISTENT) (place == INTERACTIVE) s.0 e h)
+value_keeps shape.Choice place at d e out h r =
+    let s = from_ok (log_mode_at at d) (λ mode. Ok (record e { logs = Some mode })) out r in
+    let same : record e { logs = Some s.0 } ≡ out = cc in
+    subst EntryReads same h
+value_keeps shape.Word place at d e out h r = list_keeps place at d e out h r
+value_keeps shape.Words place at d e out h r = list_keeps place at d e out h r
+value_keeps shape.Number place at d e out h r = list_keeps place at d e out h r
+value_keeps shape.Top place at d e out h r = list_keeps place at d e out h r
+
+key_keeps : (o : Option Key) (at : List ℕ) (d : Data) (e out : Entry) → EntryReads e → with_key o at d e ≡ Ok out → EntryReads out
+key_keeps None at d e out h r = absurd (cc)
+key_keeps (Some key) at d e out h r = value_keeps key.kind key.place at d e out h r
+
+member_keeps : (at name : List ℕ) (d : Data) (e out : Entry) → EntryReads e → with_member at name d e ≡ Ok out → EntryReads out
+unfolding with_member
+member_keeps at name d e out h r = key_keeps (entry_named name task_keys) (pointer_to at name) d e out h r
+
+members_keep : (at : List ℕ) (ms : Members) (e out : Entry) → EntryReads e → with_members at ms e ≡ Ok out → EntryReads out
+members_keep at no_members e out h r = let same : e ≡ out = cc in subst EntryReads same h
+members_keep at (member name d ms) e out h r =
+    let s = from_ok (with_member at name d e) (with_members at ms) out r in
+    members_keep at ms s.0 out (member_keeps at name d e s.0 h s.1) s.2
+
+-- ---- a task
+
+pub task_reads : (file : FileKind) (key : List ℕ) (d : Data) (out : Entry) → task_in file key d ≡ Ok out → EntryReads out
+unfolding task_in
+task_reads file key d out r =
+    let t = from_unless (key_fault file (task_pointer key) key) (entry_at (task_pointer key) d) out r in
+    let s = from_ok (members_at (task_pointer key) d) (λ members. with_members (task_pointer key) members no_keys) out t.1 in
+    members_keep (task_pointer key) s.0 no_keys out (tt, tt) s.2
+
+-- ---- all tasks
+
+pub insert_reads : (key : List ℕ) (entry : Entry) (es : List (List ℕ × Entry)) → EntryReads entry → EntriesRead es → EntriesRead (insert_entry name_cmp es key entry)
+insert_reads key entry [] h all = (h, tt)
+insert_reads key entry (e ∷ es) h all = by (name_cmp key e.0) (insert_reads key entry es h all.1)
+  where
+    by : (o : Ordering) → EntriesRead (insert_entry name_cmp es key entry) → EntriesRead (match_ordering o ((key, entry) ∷ e ∷ es) ((e.0, entry) ∷ es) (e ∷ insert_entry name_cmp es key entry))
+    by Less rest = (h, all)
+    by Equal rest = (h, all.1)
+    by Greater rest = (all.0, rest)
+
+pub found_reads : (test : List ℕ → Bool) (es : List (List ℕ × Entry)) → EntriesRead es → IfSome (lookup test es) EntryReads
+found_reads test [] all = tt
+found_reads test (e ∷ es) all = by (test e.0) (found_reads test es all.1)
+  where
+    by : (b : Bool) → IfSome (lookup test es) EntryReads → IfSome (cond b (Some e.1) (lookup test es)) EntryReads
+    by true rest = all.0
+    by false rest = rest
+
+-- ---- the definition
+
+or_else_reads : (P : List (List ℕ) → Type 0) (above below : Option (List (List ℕ))) → IfSome above P → IfSome below P → IfSome (or_else above below) P
+or_else_reads P None below a b = b
+or_else_reads P (Some texts) below a b = a
+
+default_reads : (o : Option (List (List ℕ))) → IfSome o AreGlobs → AreGlobs (unwrap_or o [])
+default_reads None h = refl
+default_reads (Some texts) h = h
+
+pub def_reads : (below above : Entry) → EntryReads below → EntryReads above → DefReads (def_of (over below above))
+unfolding over def_of
+def_reads below above b a =
+    (or_else_reads AreInputs above.inputs below.inputs a.0 b.0, default_reads (or_else above.outputs below.outputs) (or_else_reads AreGlobs above.outputs below.outputs a.1 b.1))
+
+-- ---- the global keys
+
+global_by_place : (m i v p : Bool) (at : List ℕ) (d : Data) (g out : Globals) → AreGlobs g.inputs
+    → cond m (env_mode_at at d >>= λ mode. Ok (record g { env_mode = Some mode })) (cond i (list_at kind.Globs at d >>= λ texts. Ok (record g { inputs = texts })) (cond v (list_at kind.Texts at d >>= λ texts. Ok (record g { env = texts })) (cond p (list_at kind.Texts at d >>= λ texts. Ok (record g { pass = texts })) (Ok g)))) ≡ Ok out → AreGlobs out.inputs
+global_by_place true i v p at d g out h r =
+    let s = from_ok (env_mode_at at d) (λ mode. Ok (record g { env_mode = Some mode })) out r in
+    let same : record g { env_mode = Some s.0 } ≡ out = cc in
+    subst (λ (o : Globals). AreGlobs o.inputs) same h
+global_by_place false true v p at d g out h r =
+    let s = from_ok (list_at kind.Globs at d) (λ texts. Ok (record g { inputs = texts })) out r in
+    let same : record g { inputs = s.0 } ≡ out = cc in
+    subst (λ (o : Globals). AreGlobs o.inputs) same (list_reads kind.Globs at d s.0 s.1)
+global_by_place false false true p at d g out h r =
+    let s = from_ok (list_at kind.Texts at d) (λ texts. Ok (record g { env = texts })) out r in
+    let same : record g { env = s.0 } ≡ out = cc in
+    subst (λ (o : Globals). AreGlobs o.inputs) same h
+global_by_place false false false true at d g out h r =
+    let s = from_ok (list_at kind.Texts at d) (λ texts. Ok (record g { pass = texts })) out r in
+    let same : record g { pass = s.0 } ≡ out = cc in
+    subst (λ (o : Globals). AreGlobs o.inputs) same h
+global_by_place false false false false at d g out h r =
+    let same : g ≡ out = cc in
+    subst (λ (o : Globals). AreGlobs o.inputs) same h
+
+top_key_keeps : (o : Option Key) (at : List ℕ) (d : Data) (g out : Globals) → AreGlobs g.inputs → with_top_key o at d g ≡ Ok out → AreGlobs out.inputs
+top_key_keeps None at d g out h r = let same : g ≡ out = cc in subst (λ (o : Globals). AreGlobs o.inputs) same h
+top_key_keeps (Some key) at d g out h r =
+    global_by_place (key.place == ENV_MODE) (key.place == GLOBAL_INPUTS) (key.place == GLOBAL_ENV) (key.place == GLOBAL_PASS) at d g out h r
+
+top_member_keeps : (name : List ℕ) (d : Data) (g out : Globals) → AreGlobs g.inputs → with_top_member name d g ≡ Ok out → AreGlobs out.inputs
+unfolding with_top_member
+top_member_keeps name d g out h r = top_key_keeps (entry_named name top_keys) (pointer_to [] name) d g out h r
+
+top_members_keep : (ms : Members) (g out : Globals) → AreGlobs g.inputs → with_top_members ms g ≡ Ok out → AreGlobs out.inputs
+top_members_keep no_members g out h r = let same : g ≡ out = cc in subst (λ (o : Globals). AreGlobs o.inputs) same h
+top_members_keep (member name d ms) g out h r =
+    let s = from_ok (with_top_member name d g) (with_top_members ms) out r in
+    top_members_keep ms s.0 out (top_member_keeps name d g s.0 h s.1) s.2
+
+pub globals_read : (d : Data) (out : Globals) → globals_in d ≡ Ok out → AreGlobs out.inputs
+globals_read d out r =
+    let s = from_ok (members_at [] d) (λ members. with_top_members members no_globals) out r in
+    top_members_keep s.0 no_globals out refl s.2
+
+-- ---- what a look-up lends
+
+pub lent_reads : (o : Option (Bor Entry)) (found : Option Entry) → option_copied o ≡ found → IfSome found EntryReads → IfSome o (λ e. EntryReads e.now)
+lent_reads None found e h = tt
+lent_reads (Some entry) found e h = rw (← e) at h

@@ -1,0 +1,13 @@
+pub mod Faults
+pub mod Answers
+pub mod Keys
+pub mod Names
+pub mod Globs
+pub mod Values
+pub mod Entries
+pub mod Tasks
+pub mod Files
+pub mod Setup
+pub mod Sets
+pub mod Reads
+pub mod RootFile

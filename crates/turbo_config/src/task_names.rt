@@ -1,0 +1,135 @@
+// The names of tasks.
+ghost use Rattle.std.specs.Prelude.{◌≡◌, ◌&&◌, ◌∷◌, [], ℕ, List, Some, not, IfOk, OnOk, option_to_list};
+ghost use Rattle.std.specs.Map.{keys_of};
+ghost use Rattle.std.specs.BTreeSet.{contains};
+ghost use Rattle.rel_path.specs.Paths.{name_cmp};
+ghost use Rattle.turbo_config.specs.Answers.{OnlyMemory};
+ghost use Rattle.turbo_config.specs.Names.{has_hash, behind_hash, is_task_name};
+ghost use Rattle.turbo_config.specs.Sets.{Gains};
+ghost use Rattle.turbo_config.specs.Setup as spec;
+
+use crate::error::ConfigErr;
+use crate::files::PackageConfig;
+use crate::names::{behind_hash, has_hash, is_task_name};
+use crate::tasks::Tasks;
+use rel_path::Text;
+use std::alloc::Global;
+use std::collections::{BTreeMap, BTreeSet};
+
+/// Adds the task of a key `package#task`.
+fn add_tail(alloc: Global, tails: &mut BTreeSet<Text>, key: &str) -> Result<(), ConfigErr>
+    ensures added { OnOk result (Gains (λ name. spec.is_among (option_to_list (behind_hash key.now)) name) tails.old tails.new) }
+    ensures memory { OnlyMemory result }
+{
+    let Some(task) = behind_hash(key) else {
+        return Ok(());
+    };
+    tails.insert(Text::read(alloc, task)?)?;
+    Ok(())
+}
+
+/// The tasks of the keys `package#task`.
+#[tactic(auto, unfolding(crate::specs::Setup::ends_in))]
+pub(crate) fn tails_of(alloc: Global, tasks: &Tasks) -> Result<BTreeSet<Text>, ConfigErr>
+    ensures value { IfOk result (λ tails. (task : List ℕ) → contains name_cmp tails task ≡ spec.ends_in (Some tasks.now) task) }
+    ensures memory { OnlyMemory result }
+{
+    let mut tails = BTreeSet::new(alloc);
+    for key in tasks.entries().keys() {
+        add_tail(alloc, &mut tails, key.as_str())?;
+    }
+    Ok(tails)
+}
+
+/// Adds a name without `#`.
+fn add_name(names: &mut BTreeSet<Text>, name: &Text) -> Result<(), ConfigErr>
+    ensures added { OnOk result (Gains (λ other. not (has_hash other) && spec.is_among (name.now ∷ []) other) names.old names.new) }
+    ensures memory { OnlyMemory result }
+{
+    if has_hash(name.as_str()) {
+        return Ok(());
+    }
+    names.insert(name.copy()?)?;
+    Ok(())
+}
+
+/// Adds the keys without `#`.
+fn add_keys(names: &mut BTreeSet<Text>, tasks: &Tasks) -> Result<(), ConfigErr>
+    ensures added { OnOk result (Gains (λ name. not (has_hash name) && spec.is_among (keys_of tasks.now) name) names.old names.new) }
+    ensures memory { OnlyMemory result }
+{
+    for key in tasks.entries().keys() {
+        add_name(names, key)?;
+    }
+    Ok(())
+}
+
+/// Adds those of a set.
+fn add_set(names: &mut BTreeSet<Text>, more: &BTreeSet<Text>) -> Result<(), ConfigErr>
+    ensures added { OnOk result (Gains (λ name. not (has_hash name) && spec.is_among more.now.keys name) names.old names.new) }
+    ensures memory { OnlyMemory result }
+{
+    for name in more {
+        add_name(names, name)?;
+    }
+    Ok(())
+}
+
+/// Adds those of the packages' files.
+fn add_own(
+    names: &mut BTreeSet<Text>,
+    packages: &BTreeMap<Text, PackageConfig>,
+) -> Result<(), ConfigErr>
+    ensures added { OnOk result (Gains (λ name. not (has_hash name) && spec.is_own packages.now.entries name) names.old names.new) }
+    ensures memory { OnlyMemory result }
+{
+    for file in packages.values() {
+        add_keys(names, &file.tasks)?;
+    }
+    Ok(())
+}
+
+/// Adds a name that a task may have.
+fn add_script(names: &mut BTreeSet<Text>, script: &Text) -> Result<(), ConfigErr>
+    ensures added { OnOk result (Gains (λ name. is_task_name name && spec.is_among (script.now ∷ []) name) names.old names.new) }
+    ensures memory { OnlyMemory result }
+{
+    if !is_task_name(script.as_str()) {
+        return Ok(());
+    }
+    names.insert(script.copy()?)?;
+    Ok(())
+}
+
+/// The names of scripts that a task may have.
+pub(crate) fn script_names(
+    alloc: Global,
+    scripts: &BTreeSet<Text>,
+) -> Result<BTreeSet<Text>, ConfigErr>
+    ensures value { IfOk result (λ names. (name : List ℕ) → contains name_cmp names name ≡ spec.is_script_task scripts.now.keys name) }
+    ensures memory { OnlyMemory result }
+{
+    let mut names = BTreeSet::new(alloc);
+    for script in scripts {
+        add_script(&mut names, script)?;
+    }
+    Ok(names)
+}
+
+/// The names without `#` of the root's keys, of the tails of these, and of the packages' files.
+pub(crate) fn file_names(
+    alloc: Global,
+    tasks: &Tasks,
+    tails: &BTreeSet<Text>,
+    packages: &BTreeMap<Text, PackageConfig>,
+) -> Result<BTreeSet<Text>, ConfigErr>
+    requires { (task : List ℕ) → contains name_cmp tails.now task ≡ spec.ends_in (Some tasks.now) task }
+    ensures value { IfOk result (λ names. (name : List ℕ) → contains name_cmp names name ≡ spec.is_file_name tasks.now packages.now.entries name) }
+    ensures memory { OnlyMemory result }
+{
+    let mut names = BTreeSet::new(alloc);
+    add_keys(&mut names, tasks)?;
+    add_set(&mut names, tails)?;
+    add_own(&mut names, packages)?;
+    Ok(names)
+}

@@ -1,0 +1,141 @@
+// Values of the kinds that a turbo.json has.
+ghost use Rattle.std.specs.Prelude.{◌≡◌, ◌⊎◌, IfOk, option_and_then};
+ghost use Rattle.std.specs.Option.{option_map};
+ghost use Rattle.serde_json.specs.View.{view, items_view, members_view};
+ghost use Rattle.json_view.specs.Look.{texts_of};
+ghost use Rattle.turbo_config.specs.Answers.{Reads, ReadsAs, OnlyMemory};
+ghost use Rattle.turbo_config.specs.Values.{flag_at, texts_at, list_at, members_at, log_mode_of, log_mode_at, env_mode_of, env_mode_at};
+
+use crate::entry::LogMode;
+use crate::error::ConfigErr;
+use crate::glob_fault::{ListKind, check_entries};
+use env_select::EnvMode;
+use json_view::Shape;
+use rel_path::{Text, Texts};
+use serde_json::{Map, Value};
+use std::alloc::Global;
+
+/// That something else than the shape stands at the pointer.
+fn wrong(alloc: Global, at: &str, wanted: Shape) -> ConfigErr
+    ensures { (result ≡ ConfigErr.OutOfMemory) ⊎ (result ≡ ConfigErr.WrongKind at.now wanted) }
+{
+    match Text::read(alloc, at) {
+        Ok(pointer) => ConfigErr::WrongKind { pointer, wanted },
+        Err(_) => ConfigErr::OutOfMemory,
+    }
+}
+
+/// A flag.
+#[tactic(auto, unfolding(crate::specs::Values::flag_at))]
+pub(crate) fn flag_at(alloc: Global, at: &str, value: &Value) -> Result<bool, ConfigErr>
+    ensures { Reads (flag_at at.now (view value.now)) result }
+{
+    match value.as_bool() {
+        Some(flag) => Ok(flag),
+        None => Err(wrong(alloc, at, Shape::Flag)),
+    }
+}
+
+/// The members of an object.
+#[tactic(auto, unfolding(crate::specs::Values::members_at))]
+pub(crate) fn members_at<'a>(
+    alloc: Global,
+    at: &str,
+    value: &'a Value,
+) -> Result<&'a Map<String, Value>, ConfigErr>
+    ensures { ReadsAs (λ members. members_view members.now.entries) (members_at at.now (view value.now)) result }
+{
+    match value.as_object() {
+        Some(members) => Ok(members),
+        None => Err(wrong(alloc, at, Shape::Object)),
+    }
+}
+
+/// The texts of a list of strings; None where something else is among them.
+fn texts_of(alloc: Global, items: &[Value]) -> Result<Option<Texts>, ConfigErr>
+    ensures texts { IfOk result (λ texts. texts ≡ texts_of (items_view items.now)) }
+    ensures memory { OnlyMemory result }
+{
+    let mut texts = Texts::new(alloc);
+    for value in items {
+        match value.as_str() {
+            None => return Ok(None),
+            Some(text) => texts.push(Text::read(alloc, text)?)?,
+        }
+    }
+    Ok(Some(texts))
+}
+
+/// The strings of an array.
+#[tactic(auto, unfolding(crate::specs::Values::texts_at))]
+fn texts_at(alloc: Global, at: &str, value: &Value) -> Result<Texts, ConfigErr>
+    ensures { Reads (texts_at at.now (view value.now)) result }
+{
+    match value.as_array() {
+        None => Err(wrong(alloc, at, Shape::Texts)),
+        Some(items) => match texts_of(alloc, items.as_slice())? {
+            None => Err(wrong(alloc, at, Shape::Texts)),
+            Some(texts) => Ok(texts),
+        },
+    }
+}
+
+/// The strings of an array, each of which is an entry of that kind.
+#[tactic(auto, unfolding(crate::specs::Values::list_at))]
+pub(crate) fn list_at(
+    alloc: Global,
+    kind: ListKind,
+    at: &str,
+    value: &Value,
+) -> Result<Texts, ConfigErr>
+    ensures { Reads (list_at kind at.now (view value.now)) result }
+{
+    let texts = texts_at(alloc, at, value)?;
+    check_entries(alloc, kind, at, texts.as_slice())?;
+    Ok(texts)
+}
+
+fn log_mode_of(word: &str) -> Option<LogMode>
+    ensures { result ≡ log_mode_of word.now }
+{
+    match word {
+        "full" => Some(LogMode::Full),
+        "hash-only" => Some(LogMode::HashOnly),
+        "new-only" => Some(LogMode::NewOnly),
+        "errors-only" => Some(LogMode::ErrorsOnly),
+        "none" => Some(LogMode::Silent),
+        _ => None,
+    }
+}
+
+/// One of the words of `outputLogs`.
+#[tactic(auto, unfolding(crate::specs::Values::log_mode_at))]
+pub(crate) fn log_mode_at(alloc: Global, at: &str, value: &Value) -> Result<LogMode, ConfigErr>
+    ensures { Reads (log_mode_at at.now (view value.now)) result }
+{
+    match value.as_str().and_then(log_mode_of) {
+        Some(mode) => Ok(mode),
+        None => Err(wrong(alloc, at, Shape::Choice)),
+    }
+}
+
+fn env_mode_of(word: &str) -> Option<EnvMode>
+    ensures { result ≡ env_mode_of word.now }
+{
+    match word {
+        "strict" => Some(EnvMode::Strict),
+        "loose" => Some(EnvMode::Loose),
+        _ => None,
+    }
+}
+
+/// One of the words of `envMode`.
+#[tactic(auto, unfolding(crate::specs::Values::env_mode_at))]
+pub(crate) fn env_mode_at(alloc: Global, at: &str, value: &Value) -> Result<EnvMode, ConfigErr>
+    ensures { Reads (env_mode_at at.now (view value.now)) result }
+{
+    match value.as_str().and_then(env_mode_of) {
+        Some(mode) => Ok(mode),
+        None => Err(wrong(alloc, at, Shape::Choice)),
+    }
+}
