@@ -1,6 +1,6 @@
-mod ListFacts
-mod PickFacts
-mod AncestorFacts
+pub mod ListFacts
+pub mod PickFacts
+pub mod AncestorFacts
 mod ClosedParts
 mod ValidParts
 mod EachFacts
