@@ -6,6 +6,7 @@
 mod cases;
 mod globs_section;
 mod ignore_section;
+mod locks_section;
 mod ranges_section;
 
 use anyhow::Result;
@@ -33,5 +34,7 @@ fn main(rt: HostRuntime) -> Result<()> {
     ignore_section::compare_grid(alloc, text.as_str())?.print(&rt, "ignore-grid", "patterns")?;
     let text = read(&rt, folder.as_str(), "ranges.jsonl")?;
     ranges_section::compare(alloc, text.as_str())?.print(&rt, "ranges", "texts")?;
+    let text = read(&rt, folder.as_str(), "locks.tsv")?;
+    locks_section::compare(alloc, text.as_str())?.print(&rt, "lockfiles", "locks")?;
     Ok(())
 }

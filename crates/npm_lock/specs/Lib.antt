@@ -1,0 +1,9 @@
+pub mod Cut
+pub mod Externals
+pub mod Finds
+pub mod Lacks
+pub mod Lock
+pub mod Lookup
+pub mod Reach
+pub mod Reading
+pub mod Sets

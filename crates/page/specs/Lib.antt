@@ -1,0 +1,7 @@
+pub mod Answers
+pub mod Tasks
+pub mod Blocks
+pub mod Summaries
+pub mod DryBlocks
+pub mod Faults
+pub mod Refusals
