@@ -1,9 +1,26 @@
 // Which fault is answered first, and its pointer.
+use std::alloc::Global;
 use std::test::Fail;
 use turbo_config::{PackageConfig, RootConfig};
 
+/// Why the root's file is refused; empty where it reads.
+fn of_root(alloc: Global, text: &str) -> Result<String, Fail> {
+    match RootConfig::read(alloc, text.as_bytes()) {
+        Ok(_) => Ok(String::new(alloc)),
+        Err(error) => Ok(error.to_string(alloc)?),
+    }
+}
+
+/// Why a package's file is refused; empty where it reads.
+fn of_package(alloc: Global, text: &str) -> Result<String, Fail> {
+    match PackageConfig::read(alloc, text.as_bytes()) {
+        Ok(_) => Ok(String::new(alloc)),
+        Err(error) => Ok(error.to_string(alloc)?),
+    }
+}
+
 #[test]
-fn of_the_root(rt: HostRuntime) -> Result<(), Fail> {
+fn of_the_top(rt: HostRuntime) -> Result<(), Fail> {
     let alloc = rt.alloc();
     for (text, wanted) in [
         (r#"{"pipeline":{}}"#, "Pipeline"),
@@ -12,6 +29,16 @@ fn of_the_root(rt: HostRuntime) -> Result<(), Fail> {
         (r#"{"pipeline":{}} /*"#, "OpenComment 16"),
         (r#"[]"#, "WrongKind  object"),
         (r#"{"tasks":[]}"#, "WrongKind /tasks object"),
+    ] {
+        assert!(rt; of_root(alloc, text)?.as_str() == wanted);
+    }
+    Ok(())
+}
+
+#[test]
+fn of_tasks(rt: HostRuntime) -> Result<(), Fail> {
+    let alloc = rt.alloc();
+    for (text, wanted) in [
         (
             r#"{"tasks":{"build":null}}"#,
             "WrongKind /tasks/build object",
@@ -40,13 +67,33 @@ fn of_the_root(rt: HostRuntime) -> Result<(), Fail> {
             r#"{"tasks":{"build":{"outputLogs":true}}}"#,
             "WrongKind /tasks/build/outputLogs choice",
         ),
+    ] {
+        assert!(rt; of_root(alloc, text)?.as_str() == wanted);
+    }
+    Ok(())
+}
+
+#[test]
+fn of_names(rt: HostRuntime) -> Result<(), Fail> {
+    let alloc = rt.alloc();
+    for (text, wanted) in [
         (r#"{"tasks":{"":{}}}"#, "TaskName /tasks/"),
         (r#"{"tasks":{"web#":{}}}"#, "TaskName /tasks/web#"),
         (r#"{"tasks":{"web#a#b":{}}}"#, "TaskName /tasks/web#a#b"),
         (r#"{"tasks":{"^build":{}}}"#, "TaskName /tasks/^build"),
         (r#"{"tasks":{"web#$x":{}}}"#, "TaskName /tasks/web#$x"),
         ("{\"tasks\":{\"a\\u001f\":{}}}", "TaskName /tasks/a\u{1f}"),
-        // The least key comes first, and in it the least key of the task.
+    ] {
+        assert!(rt; of_root(alloc, text)?.as_str() == wanted);
+    }
+    Ok(())
+}
+
+// The least global key comes first, then the least key of `tasks`, and in it the least key of the task.
+#[test]
+fn in_order(rt: HostRuntime) -> Result<(), Fail> {
+    let alloc = rt.alloc();
+    for (text, wanted) in [
         (
             r#"{"tasks":{"b":1,"a":{"with":1,"env":1}}}"#,
             "WrongKind /tasks/a/env texts",
@@ -68,10 +115,7 @@ fn of_the_root(rt: HostRuntime) -> Result<(), Fail> {
             "Glob /globalDependencies/1 OpenBrace 0",
         ),
     ] {
-        match RootConfig::read(alloc, text.as_bytes()) {
-            Ok(_) => assert!(rt; false),
-            Err(error) => assert!(rt; error.to_string(alloc)?.as_str() == wanted),
-        }
+        assert!(rt; of_root(alloc, text)?.as_str() == wanted);
     }
     Ok(())
 }
@@ -110,10 +154,7 @@ fn of_globs(rt: HostRuntime) -> Result<(), Fail> {
             "Glob /tasks/build/inputs/0 OpenClass 1",
         ),
     ] {
-        match RootConfig::read(alloc, text.as_bytes()) {
-            Ok(_) => assert!(rt; false),
-            Err(error) => assert!(rt; error.to_string(alloc)?.as_str() == wanted),
-        }
+        assert!(rt; of_root(alloc, text)?.as_str() == wanted);
     }
     Ok(())
 }
@@ -142,10 +183,7 @@ fn of_a_package(rt: HostRuntime) -> Result<(), Fail> {
         ),
         (r#"{"extends":["//"],"tasks":0}"#, "WrongKind /tasks object"),
     ] {
-        match PackageConfig::read(alloc, text.as_bytes()) {
-            Ok(_) => assert!(rt; false),
-            Err(error) => assert!(rt; error.to_string(alloc)?.as_str() == wanted),
-        }
+        assert!(rt; of_package(alloc, text)?.as_str() == wanted);
     }
     for text in [
         r#"{"extends":["//"]}"#,

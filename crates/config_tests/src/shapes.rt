@@ -1,8 +1,9 @@
 // Files as Turborepo's documentation and its starter show them.
 use env_select::EnvMode;
 use rel_path::{Text, Texts};
+use std::alloc::Global;
 use std::test::Fail;
-use turbo_config::{Config, LogMode, RootConfig};
+use turbo_config::{Config, Globals, LogMode, RootConfig, TaskDef};
 
 const STARTER: &str = r#"{
   "$schema": "https://turborepo.com/schema.json",
@@ -52,68 +53,86 @@ const COMMENTED: &str = r#"{
 }
 "#;
 
+/// By the root's file alone.
+fn config(alloc: Global, root: &str) -> Result<Config, Fail> {
+    let root = RootConfig::read(alloc, root.as_bytes())?;
+    Ok(Config::new(alloc, Some(root), Vec::new(alloc), Texts::new(alloc))?)
+}
+
+/// The definition of a task of `web`.
+fn task(alloc: Global, root: &str, name: &str) -> Result<Option<TaskDef>, Fail> {
+    let config = config(alloc, root)?;
+    let web = Text::read(alloc, "web")?;
+    let name = Text::read(alloc, name)?;
+    Ok(config.task_def(alloc, &web, &name)?)
+}
+
 fn is_texts(list: &Texts, first: &str, len: usize) -> bool {
     list.as_slice().len() == len && len > 0 && list.as_slice()[0].as_str() == first
 }
 
+fn has_inputs(def: &TaskDef, len: usize) -> bool {
+    match &def.inputs {
+        Some(list) => is_texts(list, "$TURBO_DEFAULT$", len),
+        None => false,
+    }
+}
+
+fn is_starter_build(def: &TaskDef) -> bool {
+    is_texts(&def.depends_on, "^build", 1)
+        && is_texts(&def.outputs, ".next/**", 2)
+        && has_inputs(def, 2)
+        && def.cache
+        && def.logs == LogMode::Full
+}
+
+fn is_dev(def: &TaskDef) -> bool {
+    def.persistent && !def.cache && def.inputs.is_none()
+}
+
+fn is_build(def: &TaskDef) -> bool {
+    is_texts(&def.depends_on, "^build", 3)
+        && is_texts(&def.env, "API_*", 2)
+        && is_texts(&def.pass, "TOKEN", 1)
+        && has_inputs(def, 4)
+        && def.interruptible
+        && def.interactive
+        && def.logs == LogMode::NewOnly
+}
+
+fn are_globals(globals: &Globals) -> bool {
+    is_texts(&globals.inputs, "tsconfig.json", 2)
+        && is_texts(&globals.env, "NODE_ENV", 2)
+        && is_texts(&globals.pass, "AWS_SECRET_KEY", 1)
+        && globals.env_mode == Some(EnvMode::Loose)
+}
+
 #[test]
 fn starter(rt: HostRuntime) -> Result<(), Fail> {
-    let alloc = rt.alloc();
-    let root = RootConfig::read(alloc, STARTER.as_bytes())?;
-    let config = Config::new(alloc, Some(root), Vec::new(alloc), Texts::new(alloc))?;
-    let web = Text::read(alloc, "web")?;
-    let build = config
-        .task_def(alloc, &web, &Text::read(alloc, "build")?)?
-        .expect(&rt, "build");
-    assert!(rt;
-        is_texts(&build.depends_on, "^build", 1) && is_texts(&build.outputs, ".next/**", 2)
-    );
-    assert!(rt;
-        build
-            .inputs
-            .is_some_and(|list| is_texts(&list, "$TURBO_DEFAULT$", 2))
-    );
-    assert!(rt; build.cache && !build.persistent && build.logs == LogMode::Full);
-    let dev = config
-        .task_def(alloc, &web, &Text::read(alloc, "dev")?)?
-        .expect(&rt, "dev");
-    assert!(rt; dev.persistent && !dev.cache && dev.inputs.is_none());
-    assert!(rt; config.names(alloc)?.as_slice().len() == 4);
-    assert!(rt; config.globals().env.as_slice().is_empty());
+    assert!(rt; task(rt.alloc(), STARTER, "build")?.is_some_and(|def| is_starter_build(&def)));
+    assert!(rt; task(rt.alloc(), STARTER, "dev")?.is_some_and(|def| is_dev(&def)));
     Ok(())
 }
 
 #[test]
 fn commented(rt: HostRuntime) -> Result<(), Fail> {
-    let alloc = rt.alloc();
-    let root = RootConfig::read(alloc, COMMENTED.as_bytes())?;
-    let config = Config::new(alloc, Some(root), Vec::new(alloc), Texts::new(alloc))?;
-    let globals = config.globals();
+    assert!(rt; task(rt.alloc(), COMMENTED, "build")?.is_some_and(|def| is_build(&def)));
     assert!(rt;
-        is_texts(&globals.inputs, "tsconfig.json", 2) && is_texts(&globals.env, "NODE_ENV", 2)
+        task(rt.alloc(), COMMENTED, "codegen")?.is_some_and(|def| def.logs == LogMode::Silent)
     );
     assert!(rt;
-        is_texts(&globals.pass, "AWS_SECRET_KEY", 1) && globals.env_mode == Some(EnvMode::Loose)
+        task(rt.alloc(), COMMENTED, "dev")?.is_some_and(|def| is_texts(
+            &def.with_tasks,
+            "api#dev",
+            1
+        ))
     );
-    let web = Text::read(alloc, "web")?;
-    let build = config
-        .task_def(alloc, &web, &Text::read(alloc, "build")?)?
-        .expect(&rt, "build");
-    assert!(rt; is_texts(&build.depends_on, "^build", 3) && is_texts(&build.env, "API_*", 2));
-    assert!(rt; is_texts(&build.pass, "TOKEN", 1) && build.logs == LogMode::NewOnly);
-    assert!(rt; build.interruptible && build.interactive && build.cache);
-    assert!(rt;
-        build
-            .inputs
-            .is_some_and(|list| is_texts(&list, "$TURBO_DEFAULT$", 4))
-    );
-    let codegen = config
-        .task_def(alloc, &web, &Text::read(alloc, "codegen")?)?
-        .expect(&rt, "codegen");
-    assert!(rt; codegen.logs == LogMode::Silent && codegen.depends_on.as_slice().is_empty());
-    let dev = config
-        .task_def(alloc, &web, &Text::read(alloc, "dev")?)?
-        .expect(&rt, "dev");
-    assert!(rt; is_texts(&dev.with_tasks, "api#dev", 1) && dev.persistent);
+    Ok(())
+}
+
+#[test]
+fn global_keys(rt: HostRuntime) -> Result<(), Fail> {
+    let config = config(rt.alloc(), COMMENTED)?;
+    assert!(rt; are_globals(config.globals()));
     Ok(())
 }

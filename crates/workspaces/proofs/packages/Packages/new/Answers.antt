@@ -1,0 +1,39 @@
+use Rattle.std.proofs.Common.{◌≡◌, ◌∙◌, None, length, map, ap, subst, sym}
+use Rattle.std.specs.List.{AllByRecursion}
+use Rattle.std.specs.List.Sorted.{IsStrictlySortedBy}
+use Rattle.std.specs.Ordering.{nat_cmp}
+use Rattle.workspaces.specs.Lists.{places}
+use Rattle.workspaces.specs.Edges.{edge_from, needs_of}
+use Rattle.workspaces.specs.Reach.{AreRowsBelow}
+use Rattle.workspaces.specs.Turned.{Turned}
+use Rattle.workspaces.specs.Members.{edges_of, needs_by}
+use Rattle.workspaces.proofs.MemberRows.{edges_below, edges_ascend, users_are}
+use Rattle.workspaces.proofs.packages.Packages.new.Goals as goal
+
+pub users_of-requires-clause-rows : goal.users_of-requires-clause-rows
+users_of-requires-clause-rows c =
+    let packages = c.args.packages.items in
+    let rows : c.as_slice-2.result.now ≡ map (edges_of packages) packages = c.as_slice-2.ensures.value ∙ (c.in_ok-edges.ensures.value ∙ ap (λ ps. map (edges_of ps) ps) c.as_slice.ensures.value) in
+    subst (λ rs. AreRowsBelow (length rs) rs) (sym rows) (edges_below packages)
+
+pub users_of-requires-clause-ascend : goal.users_of-requires-clause-ascend
+users_of-requires-clause-ascend c =
+    let packages = c.args.packages.items in
+    let rows : c.as_slice-2.result.now ≡ map (edges_of packages) packages = c.as_slice-2.ensures.value ∙ (c.in_ok-edges.ensures.value ∙ ap (λ ps. map (edges_of ps) ps) c.as_slice.ensures.value) in
+    subst (λ rs. AllByRecursion (IsStrictlySortedBy nat_cmp) rs) (sym rows) (edges_ascend packages)
+
+pub invariant_of-result : goal.invariant_of-result
+invariant_of-result c =
+    let packages = c.args.packages.items in
+    let edges : c.in_ok-edges.edges.items ≡ map (edges_of packages) packages = c.in_ok-edges.ensures.value ∙ ap (λ ps. map (edges_of ps) ps) c.as_slice.ensures.value in
+    let rows : c.as_slice-2.result.now ≡ map (edges_of packages) packages = c.as_slice-2.ensures.value ∙ edges in
+    let users = c.in_ok-users.users.items in
+    record {
+      few = c.requires.fit.few;
+      proper = c.requires.proper;
+      edges = edges;
+      users = users_are packages users (c.in_ok-users.ensures.same ∙ ap length rows) (subst (λ rs. Turned rs users) rows c.in_ok-users.ensures.turned);
+      needs = c.in_ok-needs.ensures.value ∙ ap (λ ps. map (needs_by ps) ps) c.as_slice-3.ensures.value;
+      root_edges = c.in_ok-root_edges.ensures.value ∙ ap (λ ps. places (edge_from None c.args.root) ps) c.as_slice-4.ensures.value;
+      root_needs = c.in_ok-root_needs.ensures.value ∙ ap (λ ps. needs_of ps c.args.root) c.as_slice-5.ensures.value;
+    }

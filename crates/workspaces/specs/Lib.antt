@@ -1,0 +1,11 @@
+pub mod Lists
+pub mod Order
+pub mod Edges
+pub mod Entries
+pub mod Space
+pub mod Reach
+pub mod Steps
+pub mod Reading
+pub mod Marks
+pub mod Turned
+pub mod Members
