@@ -49,16 +49,24 @@ fn texts(rt: HostRuntime) -> Result<(), Fail> {
         ("1.0.0 - 2.0.0", "1.2.3", false),
     ] {
         let given = Text::read(alloc, version)?;
-        let version = if version.is_empty() { None } else { Some(given) };
+        let version = if version.is_empty() {
+            None
+        } else {
+            Some(given)
+        };
         assert!(rt; is_edge(alloc, text, &version)? == wanted);
     }
     Ok(())
 }
 
-const APP: &str = r#"{"name":"app","version":"1.0.0","dependencies":{"ui":"^1.0.0","react":"^18","app":"*"},"devDependencies":{"config":"*","lint":"1"},
+const APP: &str =
+    r#"{"name":"app","version":"1.0.0","dependencies":{"ui":"^1.0.0","react":"^18","app":"*"},"devDependencies":{"config":"*","lint":"1"},
 "optionalDependencies":{"fsevents":"2","utils":"9"},"peerDependencies":{"react":"^18","config":"*","vue":"3"}}"#;
+
 const UI: &str = r#"{"name":"ui","version":"1.2.0","dependencies":{"utils":"workspace:*"}}"#;
+
 const UTILS: &str = r#"{"name":"utils","version":"0.1.0"}"#;
+
 const CONFIG: &str = r#"{"name":"config"}"#;
 
 #[test]
@@ -70,7 +78,8 @@ fn graph(rt: HostRuntime) -> Result<(), Fail> {
         ("packages/utils/package.json", UTILS),
         ("packages/config/package.json", CONFIG),
     ];
-    let root = r#"{"workspaces":["apps/*","packages/*"],"devDependencies":{"turbo":"^2","config":"*"}}"#;
+    let root =
+        r#"{"workspaces":["apps/*","packages/*"],"devDependencies":{"turbo":"^2","config":"*"}}"#;
     let space = space_of(alloc, root, &files)?;
     assert!(rt; space.count() == 4);
     assert!(rt; numbers(alloc, space.edges(0))?.as_str() == "1 2 ");
@@ -80,7 +89,12 @@ fn graph(rt: HostRuntime) -> Result<(), Fail> {
     assert!(rt; joined(alloc, &space.needs(0).hard)?.as_str() == "lint react ");
     assert!(rt; joined(alloc, &space.needs(0).soft)?.as_str() == "config fsevents utils vue ");
     assert!(rt; joined(alloc, &space.root_needs().hard)?.as_str() == "turbo ");
-    for (p, below, above) in [(0, "1 2 3 ", ""), (1, "", "0 "), (2, "3 ", "0 "), (3, "", "0 2 ")] {
+    for (p, below, above) in [
+        (0, "1 2 3 ", ""),
+        (1, "", "0 "),
+        (2, "3 ", "0 "),
+        (3, "", "0 2 "),
+    ] {
         let set = place(alloc, p)?;
         if p < space.count() {
             assert!(rt; numbers(alloc, &space.below(alloc, &set)?)?.as_str() == below);
