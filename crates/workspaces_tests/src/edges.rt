@@ -1,11 +1,11 @@
 // What depends on what, and what is needed from outside.
-ghost use Rattle.std.specs.Prelude.{◌≡◌, ◌∷◌, [], IfOk};
+ghost use Rattle.std.specs.Prelude.{◌≡◌, ◌<◌, ◌∷◌, [], IfOk, length};
 
 use crate::space::{numbers, space_of};
 use rel_path::{Places, Text, Texts};
 use std::alloc::Global;
 use std::test::Fail;
-use workspaces::{SpaceErr, is_edge};
+use workspaces::{Packages, SpaceErr, is_edge};
 
 fn joined(alloc: Global, texts: &Texts) -> Result<String, SpaceErr> {
     let mut all = String::new(alloc);
@@ -69,6 +69,48 @@ const UTILS: &str = r#"{"name":"utils","version":"0.1.0"}"#;
 
 const CONFIG: &str = r#"{"name":"config"}"#;
 
+const ROOT: &str =
+    r#"{"workspaces":["apps/*","packages/*"],"devDependencies":{"turbo":"^2","config":"*"}}"#;
+
+const WANTED: &str =
+    "app: 1 2 | lint react | config fsevents utils vue | 1 2 3 | ; config: | | | | 0 ; ui: 3 | | | 3 | 0 ; utils: | | | | 0 2 ; 1 | turbo ";
+
+// What a package depends on, what it needs, and what edges reach from it and back.
+fn push_row(text: &mut String, alloc: Global, space: &Packages, p: u32) -> Result<(), SpaceErr>
+    requires { p < length space.now.packages }
+{
+    let set = place(alloc, p)?;
+    text.push_str(space.name(p).as_str())?;
+    text.push_str(": ")?;
+    text.push_str(numbers(alloc, space.edges(p))?.as_str())?;
+    text.push_str("| ")?;
+    text.push_str(joined(alloc, &space.needs(p).hard)?.as_str())?;
+    text.push_str("| ")?;
+    text.push_str(joined(alloc, &space.needs(p).soft)?.as_str())?;
+    text.push_str("| ")?;
+    text.push_str(numbers(alloc, &space.below(alloc, &set)?)?.as_str())?;
+    text.push_str("| ")?;
+    text.push_str(numbers(alloc, &space.above(alloc, &set)?)?.as_str())?;
+    text.push_str("; ")?;
+    Ok(())
+}
+
+fn rows(alloc: Global, space: &Packages) -> Result<String, SpaceErr> {
+    let mut text = String::new(alloc);
+    for p in 0..space.count() {
+        push_row(&mut text, alloc, space, p)?;
+    }
+    text.push_str(numbers(alloc, space.root_edges())?.as_str())?;
+    text.push_str("| ")?;
+    text.push_str(joined(alloc, &space.root_needs().hard)?.as_str())?;
+    Ok(text)
+}
+
+fn graph_text(alloc: Global, root: &str, files: &[(&str, &str)]) -> Result<String, SpaceErr> {
+    let space = space_of(alloc, root, files)?;
+    rows(alloc, &space)
+}
+
 #[test]
 fn graph(rt: HostRuntime) -> Result<(), Fail> {
     let alloc = rt.alloc();
@@ -78,28 +120,7 @@ fn graph(rt: HostRuntime) -> Result<(), Fail> {
         ("packages/utils/package.json", UTILS),
         ("packages/config/package.json", CONFIG),
     ];
-    let root =
-        r#"{"workspaces":["apps/*","packages/*"],"devDependencies":{"turbo":"^2","config":"*"}}"#;
-    let space = space_of(alloc, root, &files)?;
-    assert!(rt; space.count() == 4);
-    assert!(rt; numbers(alloc, space.edges(0))?.as_str() == "1 2 ");
-    assert!(rt; numbers(alloc, space.edges(2))?.as_str() == "3 ");
-    assert!(rt; numbers(alloc, space.edges(3))?.is_empty());
-    assert!(rt; numbers(alloc, space.root_edges())?.as_str() == "1 ");
-    assert!(rt; joined(alloc, &space.needs(0).hard)?.as_str() == "lint react ");
-    assert!(rt; joined(alloc, &space.needs(0).soft)?.as_str() == "config fsevents utils vue ");
-    assert!(rt; joined(alloc, &space.root_needs().hard)?.as_str() == "turbo ");
-    for (p, below, above) in [
-        (0, "1 2 3 ", ""),
-        (1, "", "0 "),
-        (2, "3 ", "0 "),
-        (3, "", "0 2 "),
-    ] {
-        let set = place(alloc, p)?;
-        if p < space.count() {
-            assert!(rt; numbers(alloc, &space.below(alloc, &set)?)?.as_str() == below);
-            assert!(rt; numbers(alloc, &space.above(alloc, &set)?)?.as_str() == above);
-        }
-    }
+    let text = graph_text(alloc, ROOT, &files)?;
+    assert!(rt; text.as_str() == WANTED);
     Ok(())
 }
