@@ -70,7 +70,8 @@ impl<S: StoreDevice> Cache for Store<S> {
     ghost use Rattle.record_log.specs.Kinds.{room_for};
     ghost use Rattle.cache_api.specs.Artifacts.{artifact as held, ascends};
     ghost use Rattle.cache_api.specs.Reading.{artifact_in};
-    ghost use Rattle.cache_api.specs.Found.{found, owns_all};
+    ghost use Rattle.cache_api.specs.Found.{found};
+    ghost use Rattle.globs.specs.OwnedFiles.{owns_all};
     ghost use Rattle.cache_api.specs.Pairs.{Pair, pair_for, IsWithOrWithout};
     ghost use Rattle.cache_api.specs.Cache.{CacheState, Keeps, is_fault, IsFindErr, PairsAfter, ample};
     ghost use Rattle.artifact_store.specs.Pairs.{frame_for};

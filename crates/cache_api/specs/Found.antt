@@ -1,16 +1,11 @@
 -- What a look-up finds (Turborepo docs, "Caching": a hit restores the outputs of the task).
-use Rattle.std.specs.Prelude.{ℕ, Bool, if◌then◌else◌, List, [], ◌∷◌, Option, Some, None}
-use Rattle.std.specs.List.{list_all}
+use Rattle.std.specs.Prelude.{ℕ, if◌then◌else◌, List, [], ◌∷◌, Option, Some, None}
 use Rattle.rel_path.specs.Paths.{name_eq}
 use Rattle.globs.specs.declared.out_set.OutSet.{OutSet}
-use Rattle.globs.specs.Outputs.{takes}
-use Rattle.cache_api.specs.Artifacts.{File, Artifact}
+use Rattle.globs.specs.OwnedFiles.{owns_all}
+use Rattle.cache_api.specs.Artifacts.{Artifact}
 use Rattle.cache_api.specs.Reading.{Reader}
 use Rattle.cache_api.specs.Pairs.{Pair}
-
--- the task owns each of these files
-abbrev pub owns_all : OutSet → List File → Bool
-owns_all outs files = list_all (λ file. takes outs file.0) files
 
 -- the artifact serves a task with these outputs where it owns all files
 abbrev pub if_owned : OutSet → Option Artifact → Option Artifact

@@ -1,7 +1,7 @@
 // What a task left.
 ghost use Rattle.std.specs.Prelude.{◌≡◌};
 ghost use Rattle.cache_api.specs.Reading.{artifact_in, ReadsBack, ReadsText, ReadsOnly};
-ghost use Rattle.cache_api.specs.Found as spec;
+ghost use Rattle.globs.specs.OwnedFiles as spec;
 
 use globs::OutSet;
 use rel_path::{Bytes, Files, RelPath};

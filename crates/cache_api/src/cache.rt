@@ -5,7 +5,8 @@ ghost use Rattle.store_dev.specs.Device.{LeavesOnly};
 ghost use Rattle.codes.specs.Views.{found_as};
 ghost use Rattle.cache_api.specs.Artifacts.{artifact as held, ascends};
 ghost use Rattle.cache_api.specs.Reading.{artifact_in};
-ghost use Rattle.cache_api.specs.Found.{found, owns_all};
+ghost use Rattle.cache_api.specs.Found.{found};
+ghost use Rattle.globs.specs.OwnedFiles.{owns_all};
 ghost use Rattle.cache_api.specs.Pairs.{Pair, pair_for, IsWithOrWithout};
 ghost use Rattle.cache_api.specs.Cache.{CacheState, Keeps, is_fault, StaysWhole, IsFindErr, PairsAfter, ample};
 

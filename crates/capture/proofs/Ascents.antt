@@ -14,7 +14,7 @@ use Rattle.globs.specs.Outputs.{takes, shares}
 use Rattle.globs.specs.OutLaws.{takes_within, shares_within, may_take, may_take-Within}
 use Rattle.rel_path.specs.Paths.{strip}
 use Rattle.cache_api.specs.Artifacts.{File, ascends, ascends_from}
-use Rattle.cache_api.specs.Found.{owns_all}
+use Rattle.globs.specs.OwnedFiles.{owns_all}
 use Rattle.capture.specs.Owned.{paths_of, declares, AreBelow}
 
 -- a path before another, and that one before all of these

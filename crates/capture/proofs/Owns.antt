@@ -10,7 +10,8 @@ use Rattle.globs.specs.Outputs.{takes, shares}
 use Rattle.tree_walk.specs.Walked.{is_skipped}
 use Rattle.globs.specs.OutLaws.{may_take, takes_within, shares_within}
 use Rattle.tree_walk.specs.Traversal.{passes, passes_if, reached, is_chosen, Gathered, everywhere}
-use Rattle.capture.specs.Owned.{package_enters, own_choice, SameOutside, ListsOwned}
+use Rattle.capture.specs.Owned.{package_enters, own_choice, ListsOwned}
+use Rattle.globs.specs.OwnedFiles.{SameOutside}
 use Rattle.globs.specs.OwnedFiles.{cleared}
 
 -- below a folder of the package every folder is entered

@@ -11,7 +11,8 @@ use Rattle.cache_api.specs.Artifacts.{File}
 use Rattle.rel_path.proofs.PathLaws.{path_same, path_self, path_other, path_cmp_self}
 use Rattle.globs.specs.declared.out_set.OutSet.{OutSet}
 use Rattle.globs.specs.Outputs.{takes}
-use Rattle.capture.specs.Owned.{paths_of, SameOutside}
+use Rattle.capture.specs.Owned.{paths_of}
+use Rattle.globs.specs.OwnedFiles.{SameOutside}
 use Rattle.globs.specs.OwnedFiles.{cleared, restored}
 
 -- what is there, or else what lies below

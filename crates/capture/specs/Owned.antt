@@ -26,10 +26,6 @@ own_choice outs = record { enters = package_enters outs; wants = takes outs }
 abbrev pub declared_choice : OutSet → Choice
 declared_choice outs = record { enters = package_enters outs; wants = λ path. takes outs path || shares outs path }
 
--- every path that the task doesn't own is as before
-abbrev pub SameOutside : OutSet → FileMap → FileMap → Type 0
-SameOutside outs old new = (path : Path) → takes outs path ≡ false → new path ≡ old path
-
 -- owned paths in order; where the files are told, those that are there
 pub record ListsOwned (Tells : Type 0) (files : FileMap) (outs : OutSet) (paths : List Path) : Type 0 where
   pub ascend : IsStrictlySortedBy path_cmp paths

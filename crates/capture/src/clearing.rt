@@ -4,7 +4,8 @@ ghost use Rattle.rel_path.specs.Paths.{Path};
 ghost use Rattle.tree_dev.specs.Tree.{Keeps, Looks};
 ghost use Rattle.globs.specs.Outputs.{takes};
 ghost use Rattle.globs.specs.OwnedFiles.{cleared};
-ghost use Rattle.capture.specs.Owned.{ListsOwned, SameOutside};
+ghost use Rattle.capture.specs.Owned.{ListsOwned};
+ghost use Rattle.globs.specs.OwnedFiles.{SameOutside};
 ghost use Rattle.capture.specs.Cause.{HasCause};
 
 use crate::CapErr;

@@ -6,8 +6,9 @@ ghost use Rattle.tree_dev.specs.Tree.{Keeps};
 ghost use Rattle.globs.specs.Outputs.{takes};
 ghost use Rattle.globs.specs.OwnedFiles.{restored};
 ghost use Rattle.cache_api.specs.Artifacts.{ascends};
-ghost use Rattle.cache_api.specs.Found.{owns_all};
-ghost use Rattle.capture.specs.Owned.{paths_of, SameOutside};
+ghost use Rattle.globs.specs.OwnedFiles.{owns_all};
+ghost use Rattle.capture.specs.Owned.{paths_of};
+ghost use Rattle.globs.specs.OwnedFiles.{SameOutside};
 ghost use Rattle.capture.specs.Cause.{HasCause};
 
 use crate::{CapErr, clear};

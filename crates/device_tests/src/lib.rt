@@ -7,6 +7,8 @@ mod given;
 #[cfg(test)]
 mod make;
 #[cfg(test)]
+mod owned;
+#[cfg(test)]
 mod scripts;
 #[cfg(test)]
 mod system;
@@ -15,4 +17,4 @@ mod trees;
 #[cfg(test)]
 mod worlds;
 
-pub use generic::{look_while_running, run_alone};
+pub use generic::{look_while_running, run_alone, run_plain, start_both, start_plain};

@@ -2,9 +2,11 @@
 ghost use Rattle.std.specs.Prelude.{◌≡◌, [], IfOk};
 ghost use Rattle.tree_dev.specs.Tree.{Looks};
 ghost use Rattle.spawn_dev.specs.Spawn.{IsIdle};
+ghost use Rattle.device_tests.specs.Plain.{IsPlain};
 ghost use Rattle.device_tests.specs.Quiet.{IsQuiet};
 
-use crate::generic::run_alone;
+use crate::generic::{run_plain, start_plain};
+use globs::{GlobList, GlobLists, OutSet, OutSets};
 use rel_path::{Bytes, Files, Pairs, PathErr, Paths, RelPath, Text, Texts};
 use spawn_dev::{Command, Ended, Spawner};
 use std::alloc::Global;
@@ -128,7 +130,34 @@ fn pairs_of(alloc: Global, pairs: &[(&str, &str)]) -> Result<Pairs, PathErr> {
     Ok(all)
 }
 
-/// A command of the package `p` and the task `t` that may read nothing, with a search path.
+/// The output set of a task in the folder with these outputs, beside no other task.
+pub fn outs_of(alloc: Global, folder: &str, outputs: &[&str]) -> Result<OutSet, DevErr> {
+    let folder = path_of(alloc, folder)?;
+    match GlobList::read(alloc, &texts_of(alloc, outputs)?) {
+        Ok(mine) => Ok(OutSet {
+            folder,
+            mine,
+            others: GlobLists::new(alloc),
+        }),
+        Err(_) => Err(DevErr::Failed),
+    }
+}
+
+fn no_outputs(alloc: Global, folder: &RelPath) -> Result<OutSet, PathErr>
+    ensures { IfOk result (λ outs. outs.mine ≡ []) }
+{
+    let folder = folder.copy()?;
+    match GlobList::read(alloc, &Texts::new(alloc)) {
+        Ok(mine) => Ok(OutSet {
+            folder,
+            mine,
+            others: GlobLists::new(alloc),
+        }),
+        Err(_) => Err(PathErr::OutOfMemory),
+    }
+}
+
+/// A command of the package `p` and the task `t` that owns nothing and may read nothing, with a search path.
 pub fn command_of(
     alloc: Global,
     place: u32,
@@ -137,19 +166,23 @@ pub fn command_of(
     args: &[&str],
 ) -> Result<Command, PathErr>
     ensures place { IfOk result (λ command. command.place ≡ place) }
-    ensures reads { IfOk result (λ command. command.reads ≡ []) }
+    ensures plain { IfOk result IsPlain }
 {
+    let dir = path_of(alloc, dir)?;
+    let outs = no_outputs(alloc, &dir)?;
     Ok(Command {
         place,
         package: Text::read(alloc, "p")?,
         task: Text::read(alloc, "t")?,
-        dir: path_of(alloc, dir)?,
+        dir,
         scripts: texts_of(alloc, scripts)?,
         args: texts_of(alloc, args)?,
         env: pairs_of(alloc, &[("A", "1"), ("A", "2")])?,
         given: pairs_of(alloc, &[("B", "3"), ("PATH", "/usr/bin:/bin")])?,
         externals: Pairs::new(alloc),
         reads: Paths::new(alloc),
+        above: OutSets::new(alloc),
+        outs,
     })
 }
 
@@ -165,7 +198,7 @@ pub fn run_scripts<W: Spawner>(
     ensures { IsIdle (W.runs world.new) }
 {
     let command = command_of(alloc, 0, dir, scripts, args)?;
-    let ended = run_alone(alloc, world, command)?;
+    let ended = run_plain(alloc, world, command)?;
     Ok((ended.status, ended.log))
 }
 
@@ -204,8 +237,8 @@ pub fn start_two<W: Spawner>(
     requires { IsIdle (W.runs world.old) }
 {
     let command = command_of(alloc, 1, "", &[first], &[])?;
-    world.start(alloc, command)?;
+    start_plain(alloc, world, command)?;
     let command = command_of(alloc, 2, "", &[second], &[])?;
-    world.start(alloc, command)?;
+    start_plain(alloc, world, command)?;
     Ok(())
 }

@@ -1,10 +1,11 @@
 // A world in memory.
-ghost use Rattle.std.specs.Prelude.{IfOk};
+ghost use Rattle.std.specs.Prelude.{◌≡◌, [], IfOk};
 ghost use Rattle.spawn_dev.specs.Spawn.{IsIdle};
 
+use crate::generic::{run_plain, start_plain};
 use crate::make::{command_of, files_of, names_in, next_end, path_of};
 use rel_path::{Bytes, Paths, Text};
-use spawn_dev::{Book, Command, MemWorld, Piece, Pieces, Rule, Spawner};
+use spawn_dev::{Book, Command, MemWorld, Piece, Pieces, Rule, Spawner, Writes};
 use std::alloc::Global;
 use std::process::Abort;
 use std::test::Fail;
@@ -22,6 +23,7 @@ fn rule_of(
         task: Text::read(alloc, task)?,
         status,
         log,
+        files: Writes::new(alloc),
     })
 }
 
@@ -50,7 +52,9 @@ fn rules(alloc: Global) -> Result<Book, DevErr> {
     Ok(book)
 }
 
-fn reader(alloc: Global) -> Result<Command, DevErr> {
+fn reader(alloc: Global) -> Result<Command, DevErr>
+    ensures { IfOk result (λ command. command.outs.mine ≡ []) }
+{
     let mut command = command_of(alloc, 3, "p", &["s", "", "u"], &["x", "y z"])?;
     let mut reads = Paths::new(alloc);
     for path in ["absent", "seen"] {
@@ -80,8 +84,7 @@ fn pieces(rt: HostRuntime) -> Result<(), Fail> {
     let alloc = rt.alloc();
     let files = [("seen", "(one)"), ("unseen", "(two)")];
     let mut world = world_of(alloc, &files, rules(alloc)?, &[], &[])?;
-    world.start(alloc, reader(alloc)?)?;
-    let ended = next_end(&rt, alloc, &mut world)?;
+    let ended = run_plain(alloc, &mut world, reader(alloc)?)?;
     assert_eq!(rt; (ended.place, ended.status), (3, 7));
     assert!(rt; ended.log.as_slice() == b"<(one)1x\ny zs\n\nu>".as_slice());
     Ok(())
@@ -91,8 +94,8 @@ fn pieces(rt: HostRuntime) -> Result<(), Fail> {
 fn no_rule(rt: HostRuntime) -> Result<(), Fail> {
     let alloc = rt.alloc();
     let mut world = world_of(alloc, &[], Book::new(alloc), &[], &[])?;
-    world.start(alloc, command_of(alloc, 0, "", &["exit 9"], &[])?)?;
-    let ended = next_end(&rt, alloc, &mut world)?;
+    let command = command_of(alloc, 0, "", &["exit 9"], &[])?;
+    let ended = run_plain(alloc, &mut world, command)?;
     assert!(rt; ended.status == 0 && ended.log.as_slice().is_empty());
     Ok(())
 }
@@ -100,9 +103,9 @@ fn no_rule(rt: HostRuntime) -> Result<(), Fail> {
 fn start_three<W: Spawner>(alloc: Global, world: &mut W) -> Result<(), DevErr>
     requires { IsIdle (W.runs world.old) }
 {
-    world.start(alloc, command_of(alloc, 4, "", &["x"], &[])?)?;
-    world.start(alloc, command_of(alloc, 2, "", &["x"], &[])?)?;
-    world.start(alloc, command_of(alloc, 6, "", &["x"], &[])?)?;
+    start_plain(alloc, world, command_of(alloc, 4, "", &["x"], &[])?)?;
+    start_plain(alloc, world, command_of(alloc, 2, "", &["x"], &[])?)?;
+    start_plain(alloc, world, command_of(alloc, 6, "", &["x"], &[])?)?;
     Ok(())
 }
 
@@ -124,11 +127,11 @@ fn fail_in_turn(rt: &impl Abort, alloc: Global, world: &mut MemWorld) -> Result<
     assert!(rt; names_in(alloc, world, "")?.as_str() == "a ");
     assert!(rt; world.is_idle());
     let command = command_of(alloc, 0, "", &["x"], &[])?;
-    assert!(rt; world.start(alloc, command) == Err(DevErr::Failed));
+    assert!(rt; start_plain(alloc, world, command) == Err(DevErr::Failed));
     assert!(rt; world.starts().as_slice().is_empty());
     assert!(rt; world.is_idle());
     let command = command_of(alloc, 0, "", &["x"], &[])?;
-    world.start(alloc, command)?;
+    start_plain(alloc, world, command)?;
     assert!(rt; names_in(alloc, world, "")?.as_str() == "a ");
     assert!(rt; matches!(next_end(rt, alloc, world), Err(DevErr::Failed)));
     assert!(rt; world.is_idle() && world.starts().as_slice() == [0].as_slice());

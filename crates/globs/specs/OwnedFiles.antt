@@ -1,5 +1,6 @@
 -- The files that a task owns, as a part of all files: taken away, put in their place, and by themselves (Turborepo docs, "Caching": a hit restores the files of `outputs`; that a task's files are removed first is this project's own rule).
-use Rattle.std.specs.Prelude.{ℕ, List, Option, None, if◌then◌else◌}
+use Rattle.std.specs.Prelude.{◌≡◌, ℕ, Bool, false, List, Option, None, if◌then◌else◌}
+use Rattle.std.specs.List.{list_all}
 use Rattle.rel_path.specs.Paths.{Path}
 use Rattle.rel_path.specs.Files.{FileMap, file_at}
 use Rattle.globs.specs.declared.out_set.OutSet.{OutSet}
@@ -16,3 +17,11 @@ restored outs files world = λ path. if takes outs path then file_at files path 
 -- the owned files alone
 abbrev pub owned : OutSet → FileMap → FileMap
 owned outs world = λ path. if takes outs path then world path else None
+
+-- the task owns each of these files
+abbrev pub owns_all : OutSet → List (Path × List ℕ) → Bool
+owns_all outs files = list_all (λ file. takes outs file.0) files
+
+-- every path that the task doesn't own is as before
+abbrev pub SameOutside : OutSet → FileMap → FileMap → Type 0
+SameOutside outs old new = (path : Path) → takes outs path ≡ false → new path ≡ old path

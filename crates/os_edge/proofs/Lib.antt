@@ -1,3 +1,3 @@
-pub mod PlaceLists
+pub mod CommandLists
 pub mod PairLists
 pub mod Reading

@@ -1,5 +1,4 @@
 pub mod Paths
-pub mod Places
 pub mod Shell
 pub mod Arguments
 pub mod World

@@ -2,22 +2,22 @@
 use Rattle.std.specs.Prelude.{ℕ, List, [], length, None, false}
 use Rattle.os_edge.specs.declared.folders.TheConstants.{REACH}
 use Rattle.tree_dev.specs.Tree.{TreeState}
-use Rattle.spawn_dev.specs.Effects.{Effect}
+use Rattle.spawn_dev.specs.declared.command.Command.{Command}
+use Rattle.spawn_dev.specs.Effects.{no_effect}
+use Rattle.spawn_dev.specs.Running.{command_at}
 use Rattle.spawn_dev.specs.Spawn.{Runs}
-use Rattle.os_edge.specs.Places.{is_among}
 
--- nothing is told of what a command does
-abbrev pub no_effect : Effect
-no_effect = record { log = []; status = 0 }
+abbrev pub itself : Command → Command
+itself command = command
 
--- commands run at these places, and nothing else is told
-abbrev pub runs_at : List ℕ → ℕ → Runs (Unit {0})
-runs_at places faults = record {
+-- these commands run, oldest first, and nothing else is told
+abbrev pub runs_of : List Command → ℕ → Runs (Unit {0})
+runs_of commands faults = record {
   book = tt;
-  live = is_among places;
+  at = command_at itself commands;
   will = λ _. no_effect;
   steps = [];
-  count = length places;
+  count = length commands;
   faults = faults;
 }
 

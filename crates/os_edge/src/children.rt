@@ -1,6 +1,7 @@
 // The children that run.
-ghost use Rattle.std.specs.Prelude.{◌≡◌, ◌≤◌, ◌<◌, ◌∷◌, ◌++◌, [], true, false, length, IfOk, OnOk, OnErr, IsTrue};
-ghost use Rattle.os_edge.specs.Places.{are_distinct, is_among};
+ghost use Rattle.std.specs.Prelude.{◌≡◌, ◌≤◌, ◌<◌, ◌∷◌, ◌++◌, [], None, true, false, length, IfOk, OnOk, OnErr, IfErr, IsTrue};
+ghost use Rattle.spawn_dev.specs.Running.{command_at, are_distinct};
+ghost use Rattle.os_edge.specs.World.{itself};
 
 use crate::shell::{ChildEnd, finish, shell, spawn};
 use spawn_dev::Command;
@@ -15,18 +16,25 @@ const TOO_MANY_OPEN: i32 = 24;
 
 #[derive(Drop)]
 struct Running<P: OpenProcess> {
-    place: u32,
+    command: Command,
     child: Child<P>,
 }
 
 // A child that was waited for before its turn.
 #[derive(Drop)]
 struct Finished {
-    place: u32,
+    command: Command,
     outcome: io::Result<ChildEnd>,
 }
 
-/// The children whose ends were not told yet, by their places, oldest first. No two have one place. Where
+// A start that failed, with the command that wasn't started.
+#[derive(Drop)]
+struct Refused {
+    command: Command,
+    error: io::Error,
+}
+
+/// The children whose ends were not told yet, by their commands, oldest first. No two have one place. Where
 /// descriptors run out the oldest are finished in advance.
 #[derive(Drop)]
 pub struct Children<P: OpenProcess> {
@@ -35,14 +43,16 @@ pub struct Children<P: OpenProcess> {
 }
 
 impl<P: OpenProcess> Model for Children<P> {
-    ghost use Rattle.std.specs.Prelude.{List, ℕ, IsTrue, ◌++◌, map};
-    ghost use Rattle.os_edge.specs.Places.{are_distinct};
+    ghost use Rattle.std.specs.Prelude.{List, IsTrue, ◌++◌, map};
+    ghost use Rattle.spawn_dev.specs.Running.{are_distinct};
+    ghost use Rattle.spawn_dev.specs.declared.command.Command.{Command};
+    ghost use Rattle.os_edge.specs.World.{itself};
 
-    ghost Value = { List ℕ };
+    ghost Value = { List Command };
 
-    ghost view = { λ c. map (λ f. f.place) c.finished.items ++ map (λ r. r.place) c.running.items };
+    ghost view = { λ c. map (λ f. f.command) c.finished.items ++ map (λ r. r.command) c.running.items };
 
-    ghost invariant = { λ c. IsTrue (are_distinct (map (λ f. f.place) c.finished.items ++ map (λ r. r.place) c.running.items)) };
+    ghost invariant = { λ c. IsTrue (are_distinct itself (map (λ f. f.command) c.finished.items ++ map (λ r. r.command) c.running.items)) };
 }
 
 impl<P: OpenProcess + Drop> Children<P> {
@@ -69,34 +79,38 @@ impl<P: OpenProcess + Drop> Children<P> {
         &mut self,
         rt: &R,
         alloc: Global,
-        command: &Command,
+        command: Command,
     ) -> io::Result<()>
-        requires { is_among self.old command.now.place ≡ false }
-        ensures started { OnOk result (self.new ≡ self.old ++ command.now.place ∷ []) }
+        requires { command_at itself self.old command.place ≡ None }
+        ensures started { OnOk result (self.new ≡ self.old ++ command ∷ []) }
         ensures kept { OnErr result (self.new ≡ self.old) }
     {
-        let mut shell = shell(alloc, command)?;
-        self.start_shell(rt, alloc, command.place, &mut shell)?;
-        Ok(())
+        let mut shell = shell(alloc, &command)?;
+        match self.try_start(rt, command, &mut shell) {
+            Ok(()) => Ok(()),
+            Err(refused) => self.start_again(rt, alloc, refused, &mut shell),
+        }
     }
 
-    fn start_shell<R: Processes<Started = P>>(
+    fn start_again<R: Processes<Started = P>>(
         &mut self,
         rt: &R,
         alloc: Global,
-        place: u32,
+        refused: Refused,
         shell: &mut process::Command,
     ) -> io::Result<()>
-        requires { is_among self.old place ≡ false }
-        ensures started { OnOk result (self.new ≡ self.old ++ place ∷ []) }
+        requires { command_at itself self.old refused.command.place ≡ None }
+        ensures started { OnOk result (self.new ≡ self.old ++ refused.command ∷ []) }
         ensures kept { OnErr result (self.new ≡ self.old) }
     {
-        match self.try_start(rt, place, shell) {
-            Err(e) if e.raw_os_error() == Some(TOO_MANY_OPEN) => {
-                self.finish_oldest(alloc)?;
-                self.try_start(rt, place, shell)
-            }
-            outcome => outcome,
+        let Refused { command, error } = refused;
+        if error.raw_os_error() != Some(TOO_MANY_OPEN) {
+            return Err(error);
+        }
+        self.finish_oldest(alloc)?;
+        match self.try_start(rt, command, shell) {
+            Ok(()) => Ok(()),
+            Err(refused) => Err(refused.error),
         }
     }
 
@@ -104,17 +118,25 @@ impl<P: OpenProcess + Drop> Children<P> {
     fn try_start<R: Processes<Started = P>>(
         &mut self,
         rt: &R,
-        place: u32,
+        command: Command,
         shell: &mut process::Command,
-    ) -> io::Result<()>
-        requires { is_among self.old place ≡ false }
-        ensures started { OnOk result (self.new ≡ self.old ++ place ∷ []) }
+    ) -> Result<(), Refused>
+        requires { command_at itself self.old command.place ≡ None }
+        ensures started { OnOk result (self.new ≡ self.old ++ command ∷ []) }
         ensures kept { OnErr result (self.new ≡ self.old) }
+        ensures back { IfErr result (λ refused. refused.command ≡ command) }
     {
-        self.running.reserve(1)?;
-        let child = spawn(rt, shell)?;
-        self.running.push_back_reserved(Running { place, child });
-        Ok(())
+        if let Err(e) = self.running.reserve(1) {
+            let error = io::Error::from(e);
+            return Err(Refused { command, error });
+        }
+        match spawn(rt, shell) {
+            Ok(child) => {
+                self.running.push_back_reserved(Running { command, child });
+                Ok(())
+            }
+            Err(error) => Err(Refused { command, error }),
+        }
     }
 
     // Finishes the oldest that runs in advance, which frees its descriptor.
@@ -122,24 +144,24 @@ impl<P: OpenProcess + Drop> Children<P> {
         ensures { self.new ≡ self.old }
     {
         self.finished.reserve(1)?;
-        if let Some(Running { place, child }) = self.running.pop_front() {
+        if let Some(Running { command, child }) = self.running.pop_front() {
             let outcome = finish(alloc, child);
             self.finished
-                .push_back_reserved(Finished { place, outcome });
+                .push_back_reserved(Finished { command, outcome });
         }
         Ok(())
     }
 
     /// Takes the oldest out, once it has ended.
-    pub fn take(&mut self, alloc: Global) -> (u32, io::Result<ChildEnd>)
+    pub fn take(&mut self, alloc: Global) -> (Command, io::Result<ChildEnd>)
         requires { 0 < length self.old }
         ensures taken { self.old ≡ result.0 ∷ self.new }
-        ensures distinct { IsTrue (are_distinct self.old) }
+        ensures distinct { IsTrue (are_distinct itself self.old) }
     {
-        if let Some(Finished { place, outcome }) = self.finished.pop_front() {
-            return (place, outcome);
+        if let Some(Finished { command, outcome }) = self.finished.pop_front() {
+            return (command, outcome);
         }
-        let Running { place, child } = self.running.pop_front().unwrap();
-        (place, finish(alloc, child))
+        let Running { command, child } = self.running.pop_front().unwrap();
+        (command, finish(alloc, child))
     }
 }

@@ -1,7 +1,9 @@
 // The files below the current folder, and commands by the shell.
 ghost use Rattle.std.specs.Prelude.{◌≡◌, []};
+ghost use Rattle.spawn_dev.specs.Effects.{no_effect};
+ghost use Rattle.spawn_dev.specs.EffectLaws.{no_effect_behaves};
 ghost use Rattle.spawn_dev.specs.Spawn.{Runs};
-ghost use Rattle.os_edge.specs.World.{no_effect, runs_at, state_with};
+ghost use Rattle.os_edge.specs.World.{runs_of, state_with};
 
 use crate::children::Children;
 use crate::faults::counted;
@@ -26,8 +28,8 @@ pub struct OsWorld<R: Processes> {
 impl<R: Files + Processes + AllocGlobal + Clone + Drop> OsWorld<R> {
     /// The world below the current folder, in which nothing was started. It takes no memory.
     pub fn new(rt: R, alloc: Global) -> OsWorld<R>
-        ensures state { ⟦<OsWorld<R> as Tree>⟧.state result ≡ state_with (runs_at [] 0) 0 }
-        ensures runs { ⟦<OsWorld<R> as Spawner>⟧.runs result ≡ runs_at [] 0 }
+        ensures state { ⟦<OsWorld<R> as Tree>⟧.state result ≡ state_with (runs_of [] 0) 0 }
+        ensures runs { ⟦<OsWorld<R> as Spawner>⟧.runs result ≡ runs_of [] 0 }
     {
         OsWorld {
             rt,
@@ -43,7 +45,7 @@ impl<R: Files + Processes + AllocGlobal + Clone + Drop> Tree for OsWorld<R> {
 
     ghost Rest = { Runs (Unit {0}) };
 
-    ghost state = { λ w. state_with (runs_at w.children w.start_faults) w.tree_faults };
+    ghost state = { λ w. state_with (runs_of w.children w.start_faults) w.tree_faults };
 
     fn list(&mut self, alloc: Global, folder: &RelPath) -> Result<Entries, DevErr> {
         let outcome = folders::list(&self.rt, alloc, folder);
@@ -73,16 +75,17 @@ impl<R: Files + Processes + AllocGlobal + Clone + Drop> Spawner for OsWorld<R> {
 
     ghost effect = { λ _ _. no_effect };
 
-    ghost runs = { λ w. runs_at w.children w.start_faults };
+    ghost runs = { λ w. runs_of w.children w.start_faults };
 
     fn start(&mut self, alloc: Global, command: Command) -> Result<(), DevErr> {
-        let outcome = self.children.start(&self.rt, alloc, &command);
+        let outcome = self.children.start(&self.rt, alloc, command);
         counted(&mut self.start_faults, outcome)?;
         Ok(())
     }
 
     fn wait(&mut self, alloc: Global) -> Result<Ended, DevErr> {
-        let (place, outcome) = self.children.take(alloc);
+        let (command, outcome) = self.children.take(alloc);
+        let place = command.place;
         let end = counted(&mut self.start_faults, outcome)?;
         Ok(Ended {
             place,
@@ -98,4 +101,6 @@ impl<R: Files + Processes + AllocGlobal + Clone + Drop> Spawner for OsWorld<R> {
     ghost runs_by_rest = { λ a b e. e };
 
     ghost held_by_running = { λ a path held. cc };
+
+    ghost well_behaved = { λ book seen. no_effect_behaves seen.outs };
 }

@@ -11,7 +11,8 @@ use Rattle.run_laws.proofs.AncestorFacts.{part-sub, above-sub, reaches-closed, r
 use Rattle.rel_path.specs.Paths.{Path, path_eq, is_among}
 use Rattle.rel_path.proofs.PathLaws.{path_same}
 use Rattle.rel_path.specs.Files.{file_at}
-use Rattle.run_laws.specs.Clean.{over_all, written, is_bad, skips, pair_eq, inputs_of, seen_by, seen, outcome, clean_upto, clean}
+use Rattle.run_laws.specs.Clean.{over_all, written, is_bad, skips, inputs_of, seen_by, seen, outcome, clean_upto, clean}
+use Rattle.spawn_dev.specs.Effects.{pair_eq}
 use Rattle.run_laws.specs.Ancestors.{part_at, blank, is_above, IsLower, is_nil}
 use Rattle.run_laws.specs.Picks.{pick, rank, last}
 use Rattle.run_laws.specs.Closures.{renumbered, names, sub_parts, sub_listing, in_closure, closure, IsClosed}

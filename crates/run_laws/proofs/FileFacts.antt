@@ -8,7 +8,7 @@ use Rattle.std.proofs.lemmas.Bool.{cases_Bool, true≢false, false≢true, false
 use Rattle.rel_path.specs.Paths.{Path, path_eq, path_cmp}
 use Rattle.rel_path.specs.Files.{file_at}
 use Rattle.rel_path.proofs.PathLaws.{path_cmp_total, path_same, path_self}
-use Rattle.run_laws.specs.Orders.{IsBefore, AscendByPath}
+use Rattle.spawn_dev.specs.Orders.{IsBefore, AscendByPath}
 use Rattle.run_laws.specs.FoundLaws.{FilesDiffer}
 
 abbrev Files : Type 0

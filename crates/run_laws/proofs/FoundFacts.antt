@@ -10,7 +10,8 @@ use Rattle.globs.specs.declared.out_set.OutSet.{OutSet}
 use Rattle.listing.specs.KeyText.{file_code}
 use Rattle.listing.proofs.Separates.{files_separate}
 use Rattle.cache_api.specs.Artifacts.{Artifact, artifact_text}
-use Rattle.cache_api.specs.Found.{owns_all, if_owned, given, or_else, found}
+use Rattle.cache_api.specs.Found.{if_owned, given, or_else, found}
+use Rattle.globs.specs.OwnedFiles.{owns_all}
 use Rattle.cache_api.specs.Pairs.{Pair}
 use Rattle.cache_api.specs.Reading.{Reader}
 use Rattle.run_laws.specs.FoundLaws.{ArtifactsDiffer, FoundLaw}

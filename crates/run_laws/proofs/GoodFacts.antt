@@ -22,7 +22,7 @@ use Rattle.run_core.specs.declared.states.Mode.TheVariants.{Never}
 use Rattle.listing.specs.declared.part.Listing.{Listing}
 use Rattle.run_core.specs.declared.states.Mode.{Mode}
 use Rattle.run_laws.specs.declared.outcome.Outcome.{Outcome}
-use Rattle.run_laws.specs.declared.outcome.Effect.{Effect}
+use Rattle.spawn_dev.specs.declared.effect.Effect.{Effect}
 use Rattle.run_laws.specs.declared.outcome.Outcome.TheVariants.{Skipped, Passed, Done}
 
 -- no dependency is bad among good outcomes

@@ -3,12 +3,13 @@ use Rattle.std.proofs.Common.{◌≡◌, ℕ, ◌<◌, Bool, true, false, cond, 
 use Rattle.globs.specs.declared.out_set.OutSet.{OutSet}
 use Rattle.listing.specs.declared.part.Listing.{Listing}
 use Rattle.run_core.specs.declared.states.Mode.{Mode}
-use Rattle.run_laws.specs.declared.outcome.Effect.{Effect}
+use Rattle.spawn_dev.specs.declared.effect.Effect.{Effect}
 use Rattle.run_laws.specs.declared.outcome.Outcome.{Outcome}
 use Rattle.run_laws.specs.declared.outcome.Outcome.TheVariants.{Skipped, Passed, Done}
 use Rattle.run_laws.specs.Ancestors.{part_at, is_nil}
 use Rattle.run_laws.specs.Valid.{IsValid}
-use Rattle.run_laws.specs.Effects.{Book, IsEffect, IsWellBehaved}
+use Rattle.run_laws.specs.Effects.{Book}
+use Rattle.spawn_dev.specs.Effects.{IsEffect, IsWellBehaved}
 use Rattle.cache_api.specs.Artifacts.{Artifact, IsTold}
 use Rattle.cache_api.specs.Pairs.{Pair}
 use Rattle.cache_api.specs.Reading.{ReadsOnly, artifact_in}

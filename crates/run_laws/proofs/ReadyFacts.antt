@@ -11,12 +11,13 @@ use Rattle.run_laws.proofs.ValidParts.{all-pick, any-pick_all}
 use Rattle.run_laws.proofs.EachFacts.{each_law_lem}
 use Rattle.rel_path.specs.Paths.{Path, path_eq, is_among}
 use Rattle.rel_path.specs.Files.{FileMap, file_at, over}
-use Rattle.cache_api.specs.Found.{owns_all}
+use Rattle.globs.specs.OwnedFiles.{owns_all}
 use Rattle.run_laws.specs.Clean.{over_all, written, is_bad, skips, inputs_of, has_external, seen, outcome, clean}
 use Rattle.run_laws.specs.Ancestors.{part_at, blank, is_above, IsLower, is_nil, has_script}
 use Rattle.run_laws.specs.Picks.{pick, rank}
 use Rattle.run_laws.specs.Closures.{names}
-use Rattle.run_laws.specs.Effects.{Book, IsWellBehaved}
+use Rattle.run_laws.specs.Effects.{Book}
+use Rattle.spawn_dev.specs.Effects.{IsWellBehaved}
 use Rattle.run_laws.specs.Worlds.{seen_in, owns, is_read, is_made}
 use Rattle.run_laws.specs.WorldLaws.{IsReadyFor}
 use Rattle.listing.specs.declared.part.Listing.{Listing}

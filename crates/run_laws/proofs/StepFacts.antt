@@ -8,12 +8,13 @@ use Rattle.rel_path.proofs.PathLaws.{path_self, path_other}
 use Rattle.globs.specs.Outputs.{takes}
 use Rattle.listing.specs.declared.part.Listing.{Listing}
 use Rattle.run_core.specs.declared.states.Mode.{Mode}
-use Rattle.run_laws.specs.declared.outcome.Effect.{Effect}
+use Rattle.spawn_dev.specs.declared.effect.Effect.{Effect}
 use Rattle.run_laws.specs.declared.outcome.Outcome.{Outcome}
 use Rattle.run_laws.specs.declared.outcome.Outcome.TheVariants.{Skipped, Passed, Done}
 use Rattle.run_laws.specs.Ancestors.{part_at, is_nil, has_script, is_above, IsLower}
 use Rattle.run_laws.specs.Closures.{names}
-use Rattle.run_laws.specs.Effects.{Book, IsWellBehaved}
+use Rattle.run_laws.specs.Effects.{Book}
+use Rattle.spawn_dev.specs.Effects.{IsWellBehaved}
 use Rattle.run_laws.specs.Clean.{skips, is_bad, written, seen, outcome, clean, outcome_in}
 use Rattle.run_laws.specs.Plans.{log_path, AreApart}
 use Rattle.run_laws.specs.Worlds.{seen_in, logged, Stage, Stages, is_finished, is_touched, is_well, put_at, status_in, log_in, IsOther, Holds, Shows}

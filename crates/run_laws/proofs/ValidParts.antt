@@ -10,7 +10,7 @@ use Rattle.run_laws.proofs.ClosedParts.{file_at-filter}
 use Rattle.run_laws.specs.Ancestors.{part_at, blank, IsLower}
 use Rattle.run_laws.specs.Picks.{pick, rank}
 use Rattle.run_laws.specs.Closures.{renumbered, names, sub_parts, sub_listing, in_closure, closure, IsClosed}
-use Rattle.run_laws.specs.Orders.{IsAscending}
+use Rattle.spawn_dev.specs.Orders.{IsAscending}
 use Rattle.run_laws.specs.Valid.{IsOrderedPart, IsOrdered, IsValid}
 use Rattle.listing.specs.declared.part.Part.{Part}
 use Rattle.listing.specs.declared.part.Listing.{Listing}

@@ -13,7 +13,8 @@ use Rattle.run_laws.specs.declared.outcome.Outcome.TheVariants.{Skipped, Passed,
 use Rattle.run_laws.specs.Picks.{pick}
 use Rattle.run_laws.specs.Ancestors.{part_at, is_nil, is_above}
 use Rattle.run_laws.specs.Closures.{names}
-use Rattle.run_laws.specs.Effects.{Seen, Book}
+use Rattle.run_laws.specs.Effects.{Book}
+use Rattle.spawn_dev.specs.Effects.{Seen, pair_eq}
 
 -- ---- outcomes
 
@@ -37,9 +38,6 @@ written Passed = []
 written (Done effect) = effect.files
 
 -- ---- what a task sees
-
-abbrev pub pair_eq : List ℕ × List ℕ → List ℕ × List ℕ → Bool
-pair_eq a b = name_eq a.0 b.0 && name_eq a.1 b.1
 
 -- one of these parts uses the installed package
 abbrev pub has_external : List Part → List ℕ × List ℕ → Bool

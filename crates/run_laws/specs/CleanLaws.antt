@@ -5,11 +5,12 @@ use Rattle.rel_path.specs.Files.{file_at}
 use Rattle.listing.specs.declared.part.Listing.{Listing}
 use Rattle.run_core.specs.declared.states.Mode.{Mode}
 use Rattle.run_core.specs.declared.states.Mode.TheVariants.{Never, DependenciesSuccessful, Always}
-use Rattle.run_laws.specs.declared.outcome.Effect.{Effect}
+use Rattle.spawn_dev.specs.declared.effect.Effect.{Effect}
 use Rattle.run_laws.specs.declared.outcome.Outcome.{Outcome}
 use Rattle.run_laws.specs.declared.outcome.Outcome.TheVariants.{Skipped, Done}
 use Rattle.run_laws.specs.Ancestors.{part_at, is_above, IsLower}
-use Rattle.run_laws.specs.Effects.{Book, IsEffect, IsWellBehaved}
+use Rattle.run_laws.specs.Effects.{Book}
+use Rattle.spawn_dev.specs.Effects.{IsEffect, IsWellBehaved}
 use Rattle.run_laws.specs.Clean.{skips, written, seen, outcome, clean, outcome_in}
 use Rattle.run_laws.specs.Pairs.{AreGood, EndsWell}
 use Rattle.run_laws.specs.Worlds.{is_read}

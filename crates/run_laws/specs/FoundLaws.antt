@@ -3,9 +3,10 @@ use Rattle.std.specs.Prelude.{◌≡◌, ◌≢◌, ℕ, true, List, [], ◌∷�
 use Rattle.rel_path.specs.Paths.{Path}
 use Rattle.rel_path.specs.Files.{file_at}
 use Rattle.globs.specs.declared.out_set.OutSet.{OutSet}
-use Rattle.run_laws.specs.Orders.{AscendByPath}
+use Rattle.spawn_dev.specs.Orders.{AscendByPath}
 use Rattle.cache_api.specs.Artifacts.{Artifact, artifact_text, IsTold}
-use Rattle.cache_api.specs.Found.{owns_all, found}
+use Rattle.cache_api.specs.Found.{found}
+use Rattle.globs.specs.OwnedFiles.{owns_all}
 use Rattle.cache_api.specs.Pairs.{Pair}
 use Rattle.cache_api.specs.Reading.{Reader}
 

@@ -3,9 +3,10 @@
 use Rattle.std.specs.Prelude.{ℕ, List}
 use Rattle.listing.specs.KeyText.{key_text}
 use Rattle.listing.specs.declared.part.Listing.{Listing}
-use Rattle.run_laws.specs.declared.outcome.Effect.{Effect}
+use Rattle.spawn_dev.specs.declared.effect.Effect.{Effect}
 use Rattle.run_laws.specs.Closures.{closure}
-use Rattle.run_laws.specs.Effects.{Seen, Book}
+use Rattle.run_laws.specs.Effects.{Book}
+use Rattle.spawn_dev.specs.Effects.{Seen}
 use Rattle.cache_api.specs.Artifacts.{Artifact, IsTold}
 
 -- the key text of the task and its ancestors

@@ -1,4 +1,3 @@
-pub mod Orders
 pub mod Picks
 pub mod Ancestors
 pub mod Closures

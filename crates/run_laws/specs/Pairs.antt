@@ -6,7 +6,7 @@ use Rattle.listing.specs.KeyText.{key_text}
 use Rattle.listing.specs.declared.part.Listing.{Listing}
 use Rattle.run_core.specs.declared.states.Mode.{Mode}
 use Rattle.run_core.specs.declared.states.Mode.TheVariants.{Never}
-use Rattle.run_laws.specs.declared.outcome.Effect.{Effect}
+use Rattle.spawn_dev.specs.declared.effect.Effect.{Effect}
 use Rattle.run_laws.specs.declared.outcome.Outcome.{Outcome}
 use Rattle.run_laws.specs.declared.outcome.Outcome.TheVariants.{Skipped, Passed, Done}
 use Rattle.run_laws.specs.Picks.{last}

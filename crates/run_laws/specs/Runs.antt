@@ -6,13 +6,14 @@ use Rattle.rel_path.specs.Paths.{Path}
 use Rattle.rel_path.specs.Files.{FileMap, file_at, over}
 use Rattle.listing.specs.declared.part.Listing.{Listing}
 use Rattle.run_core.specs.declared.states.Mode.{Mode}
-use Rattle.run_laws.specs.declared.outcome.Effect.{Effect}
+use Rattle.spawn_dev.specs.declared.effect.Effect.{Effect}
 use Rattle.run_laws.specs.declared.outcome.Outcome.{Outcome}
 use Rattle.run_laws.specs.declared.outcome.Outcome.TheVariants.{Skipped, Passed, Done}
 use Rattle.run_laws.specs.Ancestors.{part_at, has_script, is_above}
 use Rattle.run_laws.specs.Closures.{names}
 use Rattle.run_laws.specs.Valid.{IsValid}
-use Rattle.run_laws.specs.Effects.{Book, IsWellBehaved}
+use Rattle.run_laws.specs.Effects.{Book}
+use Rattle.spawn_dev.specs.Effects.{IsWellBehaved, no_effect}
 use Rattle.run_laws.specs.Clean.{clean, outcome_in}
 use Rattle.cache_api.specs.Artifacts.{Artifact}
 use Rattle.cache_api.specs.Pairs.{Pair}
@@ -52,9 +53,6 @@ pub data Move : Type 0 where
   Replay : (place : ℕ) (artifact : Artifact) → Move
   Start : (place : ℕ) → Move
   End : (place : ℕ) (stores : Bool) → Move
-
-abbrev pub no_effect : Effect
-no_effect = record { log = []; status = 0; files = [] }
 
 abbrev pub opening : Setting → Progress
 opening s = record { stages = λ t. Untouched; files = s.files; pairs = s.pairs; will = λ t. no_effect }

@@ -6,7 +6,7 @@ use Rattle.rel_path.specs.Files.{file_at}
 use Rattle.listing.specs.KeyText.{IsAtHome, Fits}
 use Rattle.listing.specs.declared.part.Part.{Part}
 use Rattle.listing.specs.declared.part.Listing.{Listing}
-use Rattle.run_laws.specs.Orders.{IsAscending, IsBefore, AscendByPath}
+use Rattle.spawn_dev.specs.Orders.{IsAscending, IsBefore, AscendByPath}
 use Rattle.run_laws.specs.Ancestors.{IsLower}
 use Rattle.run_laws.specs.Closures.{names}
 

@@ -6,12 +6,13 @@ use Rattle.rel_path.specs.Files.{FileMap, file_at, over}
 use Rattle.globs.specs.Outputs.{takes}
 use Rattle.listing.specs.declared.part.Listing.{Listing}
 use Rattle.run_core.specs.declared.states.Mode.{Mode}
-use Rattle.run_laws.specs.declared.outcome.Effect.{Effect}
+use Rattle.spawn_dev.specs.declared.effect.Effect.{Effect}
 use Rattle.run_laws.specs.declared.outcome.Outcome.{Outcome}
 use Rattle.run_laws.specs.declared.outcome.Outcome.TheVariants.{Done}
 use Rattle.run_laws.specs.Ancestors.{part_at, has_script, is_above, IsLower}
 use Rattle.run_laws.specs.Closures.{names}
-use Rattle.run_laws.specs.Effects.{Book, IsWellBehaved}
+use Rattle.run_laws.specs.Effects.{Book}
+use Rattle.spawn_dev.specs.Effects.{IsWellBehaved}
 use Rattle.run_laws.specs.Clean.{skips, is_bad, written, clean, outcome_in}
 use Rattle.run_laws.specs.Plans.{AreApart}
 use Rattle.run_laws.specs.Worlds.{is_read, seen_in, logged, Stages, is_finished, is_well, put_at, Holds, Leaves}

@@ -8,13 +8,14 @@ use Rattle.globs.specs.Outputs.{takes}
 use Rattle.listing.specs.declared.part.Part.{Part}
 use Rattle.listing.specs.declared.part.Listing.{Listing}
 use Rattle.run_core.specs.declared.states.Mode.{Mode}
-use Rattle.run_laws.specs.declared.outcome.Effect.{Effect}
+use Rattle.spawn_dev.specs.declared.effect.Effect.{Effect}
 use Rattle.run_laws.specs.declared.outcome.Outcome.{Outcome}
 use Rattle.run_laws.specs.declared.outcome.Outcome.TheVariants.{Skipped, Passed, Done}
 use Rattle.run_laws.specs.Picks.{pick}
 use Rattle.run_laws.specs.Ancestors.{part_at, has_script, is_above}
 use Rattle.run_laws.specs.Closures.{names}
-use Rattle.run_laws.specs.Effects.{Seen, Book}
+use Rattle.run_laws.specs.Effects.{Book}
+use Rattle.spawn_dev.specs.Effects.{Seen}
 use Rattle.run_laws.specs.Clean.{skips, written, has_external, clean, outcome_in}
 use Rattle.run_laws.specs.Plans.{log_path}
 

@@ -2,7 +2,7 @@
 //! while a run goes on.
 //!
 //! There is no code. `specs/` has the definitions, each in a file that is read in a screen or two: `Ancestors`, `Closures`
-//! and `Valid` speak of listings, `Effects` and `Clean` of commands and of the run without a cache, `Keys`, `Pairs` and
+//! and `Valid` speak of listings, `Effects` and `Clean` of books and of the run without a cache, `Keys`, `Pairs` and
 //! `Marks` of the store, `Plans`, `Worlds` and `Runs` of files and of whole runs. The laws are the contracts of functions
 //! that do nothing.
 #![tactic(auto)]
@@ -17,5 +17,6 @@ pub use laws::{
     skipped_law, start_law, steps_law,
 };
 pub use mark::Mark;
-pub use outcome::{Effect, Outcome};
+pub use outcome::Outcome;
 pub use run_core::Mode;
+pub use spawn_dev::Effect;

@@ -1,13 +1,5 @@
-// What commands do, and what becomes of tasks.
-use rel_path::{Bytes, Files};
-
-/// What a command does: the bytes that it prints, its exit status, and the files that it writes, ascending by path.
-#[derive(Debug, Drop)]
-pub struct Effect {
-    pub log: Bytes,
-    pub status: u8,
-    pub files: Files,
-}
+// What becomes of tasks.
+use spawn_dev::Effect;
 
 /// What becomes of a task in a run without a cache.
 #[derive(Debug, Drop)]

@@ -2,8 +2,8 @@
 use Rattle.std.specs.Prelude.{ℕ, ◌&&◌, Bool, if◌then◌else◌, List, [], ◌∷◌, ◌++◌, unwrap_or}
 use Rattle.rel_path.specs.Paths.{Path, name_eq}
 use Rattle.globs.specs.Outputs.{takes}
-use Rattle.run_laws.specs.declared.outcome.Effect.{Effect}
-use Rattle.run_laws.specs.Effects.{Seen}
+use Rattle.spawn_dev.specs.declared.effect.Effect.{Effect}
+use Rattle.spawn_dev.specs.Effects.{Seen}
 use Rattle.run_laws_tests.specs.declared.book.Piece.{Piece}
 use Rattle.run_laws_tests.specs.declared.book.Piece.TheVariants.{Lit, File}
 use Rattle.run_laws_tests.specs.declared.book.Write.{Write}

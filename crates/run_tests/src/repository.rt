@@ -3,7 +3,7 @@ ghost use Rattle.std.specs.Prelude.{IfOk};
 ghost use Rattle.spawn_dev.specs.Spawn.{IsIdle};
 
 use rel_path::{Bytes, Files, PathErr, RelPath, Text};
-use spawn_dev::{Book, MemWorld, Piece, Pieces, Rule, Spawner};
+use spawn_dev::{Book, MemWorld, Piece, Pieces, Rule, Spawner, Writes};
 use std::alloc::Global;
 use tree_dev::{DevErr, MemSink};
 use turbo_app::{Answer, turbo};
@@ -46,6 +46,7 @@ pub fn book_of(alloc: Global, rules: &[(&str, u8, &str)]) -> Result<Book, DevErr
             task: Text::read(alloc, "build")?,
             status: *status,
             log: pieces_of(alloc, log)?,
+            files: Writes::new(alloc),
         })?;
     }
     Ok(book)

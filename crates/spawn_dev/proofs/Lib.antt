@@ -1,2 +1,4 @@
 pub mod RunningLists
+pub mod Alone
+pub mod Ends
 pub mod Lines

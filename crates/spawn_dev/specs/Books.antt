@@ -1,8 +1,11 @@
 -- What a book says of a command.
-use Rattle.std.specs.Prelude.{ℕ, ◌&&◌, Bool, if◌then◌else◌, List, [], ◌∷◌, ◌++◌, unwrap_or}
+use Rattle.std.specs.Prelude.{ℕ, ◌&&◌, min, Bool, if◌then◌else◌, List, [], ◌∷◌, ◌++◌, unwrap_or}
 use Rattle.std.specs.List.{join_with_byte}
-use Rattle.rel_path.specs.Paths.{name_eq}
-use Rattle.spawn_dev.specs.Effects.{Seen, Effect}
+use Rattle.std.specs.BTreeMap.{insert_entry}
+use Rattle.rel_path.specs.Paths.{Path, name_eq, path_cmp}
+use Rattle.globs.specs.Outputs.{takes}
+use Rattle.spawn_dev.specs.Effects.{Seen, no_effect}
+use Rattle.spawn_dev.specs.declared.effect.Effect.{Effect}
 use Rattle.spawn_dev.specs.declared.book.Piece.{Piece}
 use Rattle.spawn_dev.specs.declared.book.Piece.TheVariants.{Lit, File, Env, Args, Scripts}
 use Rattle.spawn_dev.specs.declared.book.Rule.{Rule}
@@ -32,7 +35,15 @@ pieces_bytes seen (piece ∷ pieces) = piece_bytes seen piece ++ pieces_bytes se
 abbrev pub is_for : Seen → Rule → Bool
 is_for seen rule = name_eq rule.package seen.package && name_eq rule.task seen.task
 
--- what the first rule for the task says; status 0 and no log where there is none
+-- these files, ascending, and over them what the command writes at the paths that its task owns; a later write over an
+-- earlier one
+abbrev pub with_writes : Seen → List (Path × List ℕ) → List (Path × List Piece) → List (Path × List ℕ)
+with_writes seen files [] = files
+with_writes seen files (write ∷ writes) =
+    with_writes seen (if takes seen.outs write.0 then insert_entry path_cmp files write.0 (pieces_bytes seen write.1) else files) writes
+
+-- what the first rule for the task says, a status being a byte; status 0, no log and no files where there is none
 abbrev pub effect_of : List Rule → Seen → Effect
-effect_of [] seen = record { log = []; status = 0 }
-effect_of (rule ∷ rules) seen = if is_for seen rule then record { log = pieces_bytes seen rule.log; status = rule.status } else effect_of rules seen
+effect_of [] seen = no_effect
+effect_of (rule ∷ rules) seen =
+    if is_for seen rule then record { log = pieces_bytes seen rule.log; status = min rule.status 255; files = with_writes seen [] rule.files } else effect_of rules seen

@@ -1,6 +1,12 @@
+pub mod Orders
 pub mod Effects
+pub mod EffectLaws
+pub mod Running
+pub mod RunningLaws
 pub mod Spawn
 pub mod Books
+pub mod BookLaws
 pub mod Progress
 pub mod ShellText
 pub mod World
+pub mod WorldLaws

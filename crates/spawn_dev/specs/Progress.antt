@@ -1,32 +1,38 @@
 -- What runs in a world in memory, and the steps so far.
-use Rattle.std.specs.Prelude.{ℕ, ◌==◌, ◌&&◌, Bool, true, not, List, [], ◌∷◌, if◌then◌else◌}
-use Rattle.std.specs.List.{list_any}
-use Rattle.spawn_dev.specs.Effects.{Effect}
-use Rattle.spawn_dev.specs.declared.command.Ended.{Ended}
+use Rattle.std.specs.Prelude.{ℕ, Bool, List, [], ◌∷◌, Option}
+use Rattle.std.specs.List.{list_all}
+use Rattle.rel_path.specs.Paths.{Path}
+use Rattle.globs.specs.OwnedFiles.{owns_all}
+use Rattle.spawn_dev.specs.declared.command.Command.{Command}
 use Rattle.spawn_dev.specs.declared.command.Step.{Step}
 use Rattle.spawn_dev.specs.declared.command.Step.TheVariants.{Start, End}
+use Rattle.spawn_dev.specs.declared.effect.Running.{Running}
+use Rattle.spawn_dev.specs.declared.effect.Effect.{Effect}
+use Rattle.spawn_dev.specs.Effects.{no_effect}
+use Rattle.spawn_dev.specs.Running.{known_at, command_at, held_by, own_once}
 
--- The ends that the running commands will come to, in order of start; the starts and ends so far.
-pub record Progress : Type 0 where
-  pub running : List Ended
-  pub steps : List Step
+abbrev pub command_of : Running → Command
+command_of run = run.command
 
--- a command of the place runs
-abbrev pub runs_at : List Ended → ℕ → Bool
-runs_at running place = list_any (λ ended. place == ended.place) running
+-- the command that runs at each place
+abbrev pub runs_at : List Running → ℕ → Option Command
+runs_at running = command_at command_of running
 
-abbrev pub effect_in : Ended → Effect
-effect_in ended = record { log = ended.log; status = ended.status }
+-- what the command of each place will do
+abbrev pub will_at : List Running → ℕ → Effect
+will_at running = known_at command_of (λ run. run.effect) no_effect running
 
--- what the command of the place will do
-abbrev pub will_at : List Ended → ℕ → Effect
-will_at [] place = record { log = []; status = 0 }
-will_at (ended ∷ running) place = if place == ended.place then effect_in ended else will_at running place
+-- the paths that may change
+abbrev pub held_at : List Running → Path → Bool
+held_at running = held_by command_of running
 
--- no two run at one place
-abbrev pub are_distinct : List Ended → Bool
-are_distinct [] = true
-are_distinct (ended ∷ running) = not (runs_at running ended.place) && are_distinct running
+-- no two own the path
+abbrev pub owned_once : List Running → Path → Bool
+owned_once running = own_once command_of running
+
+-- each will write files that its command owns
+abbrev pub own_files : List Running → Bool
+own_files running = list_all (λ run. owns_all run.command.outs run.effect.files) running
 
 -- the places of the starts
 abbrev pub starts_in : List Step → List ℕ

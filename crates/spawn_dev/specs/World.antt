@@ -1,15 +1,18 @@
 -- What runs in a world in memory.
 use Rattle.std.specs.Prelude.{ℕ, List, length}
-use Rattle.spawn_dev.specs.Progress.{Progress, runs_at, will_at}
+use Rattle.spawn_dev.specs.Progress.{runs_at, will_at}
 use Rattle.spawn_dev.specs.Spawn.{Runs}
 use Rattle.spawn_dev.specs.declared.book.Rule.{Rule}
+use Rattle.spawn_dev.specs.declared.command.Step.{Step}
+use Rattle.spawn_dev.specs.declared.effect.Running.{Running}
 
-abbrev pub runs_in : List Rule → Progress → ℕ → Runs (List Rule)
-runs_in book progress faults = record {
+-- these run, after these steps
+abbrev pub runs_in : List Rule → List Running → List Step → ℕ → Runs (List Rule)
+runs_in book running steps faults = record {
   book = book;
-  live = runs_at progress.running;
-  will = will_at progress.running;
-  steps = progress.steps;
-  count = length progress.running;
+  at = runs_at running;
+  will = will_at running;
+  steps = steps;
+  count = length running;
   faults = faults;
 }

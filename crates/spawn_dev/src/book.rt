@@ -37,16 +37,33 @@ impl Model for Pieces {
     ghost view = { λ l. l.items.items };
 }
 
-/// What the command of a task does: its status and its log.
+/// Files that a command writes, each with its bytes. Of two at one path the later one counts.
+#[derive(Debug, Drop)]
+pub struct Writes {
+    items: Vec<(RelPath, Pieces)>,
+}
+
+impl Model for Writes {
+    ghost use Rattle.std.specs.Prelude.{List, ℕ};
+    ghost use Rattle.spawn_dev.specs.declared.book.Piece.{Piece};
+
+    ghost Value = { List (List (List ℕ) × List Piece) };
+
+    ghost view = { λ l. l.items.items };
+}
+
+/// What the command of a task does: its status, its log and the files that it writes. A file that its task does not
+/// own counts as none of its files.
 #[derive(Debug, Drop)]
 pub struct Rule {
     pub package: Text,
     pub task: Text,
     pub status: u8,
     pub log: Pieces,
+    pub files: Writes,
 }
 
-/// Rules. Of two rules for one task the first counts. A task without a rule has status 0 and an empty log.
+/// Rules. Of two rules for one task the first counts. A task without a rule has status 0, an empty log and no files.
 #[derive(Debug, Drop)]
 pub struct Book {
     items: Vec<Rule>,
@@ -104,6 +121,56 @@ impl Pieces {
         ensures memory { OnlyMemory result }
     {
         Ok(self.clone()?)
+    }
+}
+
+impl Writes {
+    /// The empty list. It keeps the allocator and takes no memory.
+    pub fn new(alloc: Global) -> Writes
+        ensures { result ≡ [] }
+    {
+        Writes {
+            items: Vec::new(alloc),
+        }
+    }
+
+    /// Adds an item at the end. The list stays as it was where memory is wanting.
+    pub fn push(&mut self, item: (RelPath, Pieces)) -> Result<(), DevErr>
+        ensures pushed { OnOk result (self.new ≡ self.old ++ item ∷ []) }
+        ensures kept { OnErr result (self.new ≡ self.old) }
+        ensures memory { OnlyMemory result }
+    {
+        self.items.push(item)?;
+        Ok(())
+    }
+
+    pub fn as_slice(&self) -> &[(RelPath, Pieces)]
+        ensures { result.now ≡ self.now }
+    {
+        self.items.as_slice()
+    }
+
+    pub fn from_vec(items: Vec<(RelPath, Pieces)>) -> Writes
+        ensures { result ≡ items.items }
+    {
+        Writes { items }
+    }
+
+    pub fn into_vec(self) -> Vec<(RelPath, Pieces)>
+        ensures { result.items ≡ self }
+    {
+        self.items
+    }
+
+    pub fn copy(&self) -> Result<Writes, DevErr>
+        ensures value { IfOk result (λ copy. copy ≡ self.now) }
+        ensures memory { OnlyMemory result }
+    {
+        let mut items = Vec::new(*self.items.allocator());
+        for write in self.as_slice() {
+            items.push((write.0.copy()?, write.1.copy()?))?;
+        }
+        Ok(Writes { items })
     }
 }
 
@@ -167,6 +234,7 @@ impl Rule {
             task: self.task.copy()?,
             status: self.status,
             log: self.log.copy()?,
+            files: self.files.copy()?,
         })
     }
 }

@@ -4,13 +4,15 @@
 mod book;
 mod command;
 mod effect;
+mod evaluate;
 mod progress;
 mod shell;
 mod spawner;
 mod world;
 
-pub use book::{Book, Piece, Pieces, Rule};
+pub use book::{Book, Piece, Pieces, Rule, Writes};
 pub use command::{Command, Ended, Step};
+pub use effect::Effect;
 pub use shell::shell_text;
 pub use spawner::{LOG_LIMIT, Spawner};
 pub use world::MemWorld;

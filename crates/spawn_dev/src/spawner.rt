@@ -1,9 +1,10 @@
 // A tree in which commands run.
 ghost use Rattle.std.specs.Prelude.{◌≡◌, ◌+◌, ◌≤◌, ◌<◌, ℕ, Bool, true, false, length, IfOk, OnOk, OnErr};
-ghost use Rattle.rel_path.specs.Paths.{Path, is_among};
+ghost use Rattle.rel_path.specs.Paths.{Path};
 ghost use Rattle.tree_dev.specs.Cause.{HasCause};
-ghost use Rattle.spawn_dev.specs.Effects.{Seen, Effect};
-ghost use Rattle.spawn_dev.specs.Spawn.{Runs, IsBusy, IsIdle, SameTree, Starts, BeginsAs, Refuses, IsOver, EndsAs, KeepsWill};
+ghost use Rattle.spawn_dev.specs.Effects.{Seen, IsWellBehaved};
+ghost use Rattle.spawn_dev.specs.Spawn.{Runs, live, IsBusy, IsIdle, IsOwned, KeepsClear, OwnsNothing, ReadsFree, SameTree, Starts, BeginsAs, Refuses, IsOver, EndsAs, KeepsWill};
+ghost use Rattle.spawn_dev.specs.declared.effect.Effect.{Effect};
 
 use crate::{Command, Ended};
 use std::alloc::Global;
@@ -13,10 +14,10 @@ use tree_dev::{DevErr, Tree};
 pub const LOG_LIMIT: usize = 67_108_864;
 
 /// A tree in which commands run. What runs is its `runs`: the book, by which a command's effect follows from
-/// what the command sees; the places whose commands run, which holds told or not; the effect that each of
+/// what the command sees; the command that runs at each place, which holds told or not; the effect that each of
 /// these will have, which is fixed at its start; the starts and ends so far; how many commands run; and a
 /// count of faults. All of it is part of what the tree keeps beside its files, so the calls of `Tree` leave
-/// it as it is.
+/// it as it is. While a command runs, the paths that it owns are held.
 pub trait Spawner: Tree {
     ghost Book: { Type 0 };
 
@@ -25,10 +26,14 @@ pub trait Spawner: Tree {
 
     ghost runs: { Self → Runs Book };
 
-    /// Starts a command at a place where none runs. On an error nothing changed but the count of faults.
+    /// Starts a command at a place where none runs. No file that it owns may stand in the tree, no path that it owns
+    /// may be owned or read by one that runs, and no path that it reads may be held. On an error nothing changed but the
+    /// count of faults.
     fn start(&mut self, alloc: Global, command: Command) -> Result<(), DevErr>
-        requires fresh { (runs self.old).live command.place ≡ false }
-        requires reads { (path : Path) → is_among command.reads path ≡ true → (Self.state self.old).held path ≡ false }
+        requires fresh { live (runs self.old) command.place ≡ false }
+        requires absent { Self.tells → OwnsNothing command (Self.state self.old).files }
+        requires clear { KeepsClear command (runs self.old) }
+        requires reads { ReadsFree command (Self.state self.old).held }
         ensures tree { SameTree (Self.state self.old) (Self.state self.new) }
         ensures book { (runs self.new).book ≡ (runs self.old).book }
         ensures started { OnOk result (Starts command (runs self.old) (runs self.new)) }
@@ -38,15 +43,15 @@ pub trait Spawner: Tree {
         ensures cause { HasCause (runs self.old).faults (runs self.new).faults result };
 
     /// Waits for the end of a command. Which of those that run ends is free. Whatever it answers, one of
-    /// them runs no more.
+    /// them runs no more, and every path that this one does not own is as before.
     fn wait(&mut self, alloc: Global) -> Result<Ended, DevErr>
         requires busy { IsBusy (runs self.old) }
-        ensures tree { SameTree (Self.state self.old) (Self.state self.new) }
+        ensures tree { (Self.state self.new).faults ≡ (Self.state self.old).faults }
         ensures book { (runs self.new).book ≡ (runs self.old).book }
-        ensures over { IfOk result (λ ended. IsOver ended.place (runs self.old) (runs self.new)) }
-        ensures ends { Self.tells → IfOk result (λ ended. EndsAs ended (runs self.old) (runs self.new)) }
+        ensures over { IfOk result (λ ended. IsOver ended.place (runs self.old) (runs self.new) (Self.state self.old).files (Self.state self.new).files) }
+        ensures ends { Self.tells → IfOk result (λ ended. EndsAs ended (runs self.old) (runs self.new) (Self.state self.old).files (Self.state self.new).files) }
         ensures short { IfOk result (λ ended. length ended.log ≤ LOG_LIMIT) }
-        ensures failed { OnErr result ((place : ℕ) × IsOver place (runs self.old) (runs self.new)) }
+        ensures failed { OnErr result ((place : ℕ) × IsOver place (runs self.old) (runs self.new) (Self.state self.old).files (Self.state self.new).files) }
         ensures unsaid { OnErr result ((runs self.new).steps ≡ (runs self.old).steps) }
         ensures others { KeepsWill (runs self.old) (runs self.new) }
         ensures cause { HasCause (runs self.old).faults (runs self.new).faults result };
@@ -59,6 +64,10 @@ pub trait Spawner: Tree {
     /// What runs is part of what the tree keeps.
     ghost runs_by_rest: { (a b : Self) → (Self.state a).rest ≡ (Self.state b).rest → runs a ≡ runs b };
 
-    /// Only while a command runs may a path change.
-    ghost held_by_running: { (a : Self) → (path : Path) → (Self.state a).held path ≡ true → IsBusy (runs a) };
+    /// Only what a running command owns is held.
+    ghost held_by_running: { (a : Self) → (path : Path) → (Self.state a).held path ≡ true → IsOwned (runs a) path };
+
+    /// What a command does is an effect of its task, by every book: a status below 256, and files that ascend by path
+    /// and that the task owns.
+    ghost well_behaved: { (book : Book) → IsWellBehaved (effect book) };
 }

@@ -1,10 +1,10 @@
 -- Lists of files, and what stands at a path after one is taken away, changed or added.
 use Rattle.std.proofs.Common.{◌≡◌, ℕ, zero, suc, ◌+◌, ◌<◌, ◌≤◌, true, false, not, cond, List, [], ◌∷◌, ◌++◌, length, get_or, set, refl, sym, ap, ◌∙◌, arith, max}
-use Rattle.std.specs.Prelude.{Some, None}
+use Rattle.std.specs.Prelude.{Some, None, is_some}
 use Rattle.std.specs.List.{position, position_from}
 use Rattle.std.proofs.lemmas.Iterator.Adapters.{position_from-zero}
 use Rattle.rel_path.specs.Paths.{Path, path_eq}
-use Rattle.rel_path.specs.Files.{file_at, SameBut}
+use Rattle.rel_path.specs.Files.{file_at, over, SameBut}
 use Rattle.rel_path.proofs.PathLaws.{path_same, path_self, path_other}
 use Rattle.tree_dev.specs.Memory.{is_at, is_elsewhere, without}
 use Rattle.tree_dev.specs.Listing.{deepest}
@@ -82,3 +82,14 @@ nothing_from path i (e ∷ files) none =
 -- no place of a file at the path, and so no file there
 pub nothing_at : (path : Path) (files : Held) → position (is_at path) files ≡ None → file_at files path ≡ None
 nothing_at path files none = nothing_from path 0 files (sym (position_from-zero (is_at path) files) ∙ none)
+
+-- files before others stand over them
+pub before_others : (files others : Held) → file_at (files ++ others) ≡ over (file_at others) (file_at files)
+before_others files others = λ i. λ path. at files path i
+  where
+    at : (files : Held) (path : Path) → file_at (files ++ others) path ≡ over (file_at others) (file_at files) path
+    at [] path = refl
+    at (f ∷ files) path = elim (path_eq f.0 path) as (λ b. cond b (Some f.1) (file_at (files ++ others) path) ≡ cond (is_some (cond b (Some f.1) (file_at files path))) (cond b (Some f.1) (file_at files path)) (file_at others path)) [
+      | true ↦ refl
+      | false ↦ at files path
+    ]

@@ -2,7 +2,7 @@
 ghost use Rattle.std.specs.Prelude.{◌≡◌, ◌↔◌, false, Some, OnOk, OnErr, IfOk, IsTrue};
 ghost use Rattle.std.specs.List.{position};
 ghost use Rattle.std.specs.Option.{option_map};
-ghost use Rattle.rel_path.specs.Files.{file_at, SameBut};
+ghost use Rattle.rel_path.specs.Files.{file_at, over, SameBut};
 ghost use Rattle.tree_dev.specs.Cause.{OnlyMemory};
 ghost use Rattle.tree_dev.specs.Listing.{deepest};
 ghost use Rattle.tree_dev.specs.Memory.{is_at, is_elsewhere, without};
@@ -111,6 +111,29 @@ impl MemTree {
         ensures { (⟦<MemTree as Tree>⟧.state self.now).files ≡ file_at result.now }
     {
         &self.files
+    }
+
+    /// Puts these files into their places, as no call of a tree that is counted. Of a path that stands twice among
+    /// them the first counts.
+    pub fn put_all(&mut self, files: Files) -> Result<(), DevErr>
+        ensures files { OnOk result ((⟦<MemTree as Tree>⟧.state self.new).files ≡ over (⟦<MemTree as Tree>⟧.state self.old).files (file_at files)) }
+        ensures faults { (⟦<MemTree as Tree>⟧.state self.new).faults ≡ (⟦<MemTree as Tree>⟧.state self.old).faults }
+        ensures turns { tree_turns self.new ≡ tree_turns self.old }
+        ensures kept { OnErr result (⟦<MemTree as Tree>⟧.state self.new ≡ ⟦<MemTree as Tree>⟧.state self.old) }
+        ensures memory { OnlyMemory result }
+    {
+        let mut all = files.into_vec();
+        let mut others = mem::replace(&mut self.files, Files::new(self.alloc)).into_vec();
+        match all.append(&mut others) {
+            Ok(()) => {
+                self.files = Files::from_vec(all);
+                Ok(())
+            }
+            Err(_) => {
+                self.files = Files::from_vec(others);
+                Err(DevErr::OutOfMemory)
+            }
+        }
     }
 
     /// Counts a call that a device made of this tree answers beside the tree's own, and answers whether it

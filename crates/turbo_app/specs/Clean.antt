@@ -1,7 +1,8 @@
 -- The run of parts without a cache, one after another.
 use Rattle.std.specs.Prelude.{ℕ, ◌+◌, ◌==◌, max, Bool, true, false, not, if◌then◌else◌, List, [], ◌∷◌, ◌++◌, length}
 use Rattle.rel_path.specs.Files.{FileMap}
-use Rattle.spawn_dev.specs.Effects.{Seen, Effect, seen_by}
+use Rattle.spawn_dev.specs.Effects.{Seen, seen_by}
+use Rattle.spawn_dev.specs.declared.effect.Effect.{Effect}
 use Rattle.spawn_dev.specs.declared.command.Command.{Command}
 use Rattle.spawn_dev.specs.declared.command.Ended.{Ended}
 use Rattle.spawn_dev.specs.declared.command.Step.{Step}
@@ -11,7 +12,8 @@ use Rattle.literal_plan.specs.Plan.{manifest_path, has_script}
 use Rattle.turbo_app.specs.declared.outcome.Outcome.{Outcome}
 use Rattle.turbo_app.specs.declared.outcome.Outcome.TheVariants.{Passed, Done}
 
--- the command of a part: its scripts in its folder, with nothing of the environment but what every command gets
+-- the command of a part: its scripts in its folder, with nothing of the environment but what every command gets, and no
+-- outputs
 abbrev pub command_at : ℕ → List (List ℕ × List ℕ) → Part → Command
 command_at place given part = record {
   place = place;
@@ -24,6 +26,8 @@ command_at place given part = record {
   given = given;
   externals = [];
   reads = manifest_path part.folder ∷ [];
+  above = [];
+  outs = record { folder = part.folder; mine = []; others = [] };
 }
 
 -- all that the command of a part may depend on: neither its place nor what is given

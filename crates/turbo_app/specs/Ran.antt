@@ -1,7 +1,8 @@
 -- What a run that ended left, against the run without a cache.
 use Rattle.std.specs.Prelude.{◌≡◌, ℕ, List, ◌++◌}
 use Rattle.rel_path.specs.Files.{FileMap}
-use Rattle.spawn_dev.specs.Effects.{Seen, Effect}
+use Rattle.spawn_dev.specs.Effects.{Seen}
+use Rattle.spawn_dev.specs.declared.effect.Effect.{Effect}
 use Rattle.spawn_dev.specs.declared.command.Step.{Step}
 use Rattle.std.specs.Prelude.{Ok}
 use Rattle.literal_plan.specs.declared.part.Part.{Part}

@@ -1,7 +1,7 @@
 // Runs parts one after another.
-ghost use Rattle.std.specs.Prelude.{◌≡◌, ◌++◌, ◌+◌, ◌<◌, ◌≤◌, ◌^◌, length, IfOk, OnOk};
+ghost use Rattle.std.specs.Prelude.{◌≡◌, [], ◌++◌, ◌+◌, ◌<◌, ◌≤◌, ◌^◌, length, IfOk, OnOk};
 ghost use Rattle.tree_dev.specs.Cause.{HasCause, OnlyMemory};
-ghost use Rattle.spawn_dev.specs.Spawn.{IsIdle, SameTree};
+ghost use Rattle.spawn_dev.specs.Spawn.{IsIdle};
 ghost use Rattle.turbo_app.specs.Clean.{command_at, outcome, is_failure, clean, steps_at, steps_from, status_of};
 ghost use Rattle.turbo_app.specs.Page.{block, blocks, total_of, page};
 ghost use Rattle.turbo_app.specs.Stops.{StopsBy};
@@ -10,15 +10,36 @@ ghost use Rattle.turbo_app.specs.Tallies.{counted, with_all, nothing_yet};
 use crate::page::{block, summary};
 use crate::tally::Tally;
 use crate::{Outcome, Part, Stop};
-use rel_path::{Pairs, Paths, Texts};
+use globs::{GlobList, GlobLists, OutSet, OutSets};
+use rel_path::{Pairs, Paths, RelPath, Texts};
 use spawn_dev::{Command, Spawner};
 use std::alloc::Global;
 use tree_dev::{DevErr, Sink};
+
+// The output set of a task that declares nothing.
+fn no_outputs(alloc: Global, folder: &RelPath) -> Result<OutSet, DevErr>
+    ensures outs { IfOk result (λ outs. outs ≡ record { folder = folder.now; mine = []; others = [] }) }
+    ensures memory { OnlyMemory result }
+{
+    let folder = folder.copy()?;
+    match GlobList::read(alloc, &Texts::new(alloc)) {
+        Ok(mine) => {
+            let others = GlobLists::new(alloc);
+            Ok(OutSet {
+                folder,
+                mine,
+                others,
+            })
+        }
+        Err(_) => Err(DevErr::OutOfMemory),
+    }
+}
 
 fn command_of(alloc: Global, place: u32, given: &Pairs, part: &Part) -> Result<Command, DevErr>
     ensures command { IfOk result (λ command. command ≡ command_at place given.now part.now) }
     ensures memory { OnlyMemory result }
 {
+    let outs = no_outputs(alloc, &part.folder)?;
     let mut reads = Paths::new(alloc);
     reads.push(part.folder.join(alloc, "package.json")?)?;
     Ok(Command {
@@ -32,6 +53,8 @@ fn command_of(alloc: Global, place: u32, given: &Pairs, part: &Part) -> Result<C
         given: given.copy()?,
         externals: Pairs::new(alloc),
         reads,
+        above: OutSets::new(alloc),
+        outs,
     })
 }
 
@@ -45,7 +68,8 @@ fn run_part<W: Spawner>(
 ) -> Result<Outcome, DevErr>
     requires { IsIdle (W.runs world.old) }
     ensures idle { IsIdle (W.runs world.new) }
-    ensures tree { SameTree (W.state world.old) (W.state world.new) }
+    ensures files { (W.state world.new).files ≡ (W.state world.old).files }
+    ensures tree { (W.state world.new).faults ≡ (W.state world.old).faults }
     ensures book { (W.runs world.new).book ≡ (W.runs world.old).book }
     ensures outcome { W.tells → IfOk result (λ o. o ≡ outcome (W.effect (W.runs world.old).book) (W.state world.old).files part.now) }
     ensures steps { W.tells → OnOk result ((W.runs world.new).steps
@@ -116,7 +140,8 @@ fn step<W: Spawner, K: Sink>(
     requires idle { IsIdle (W.runs world.old) }
     requires few { tally.old.good + 1 < 2 ^ 64 }
     ensures idle { IsIdle (W.runs world.new) }
-    ensures tree { SameTree (W.state world.old) (W.state world.new) }
+    ensures files { (W.state world.new).files ≡ (W.state world.old).files }
+    ensures tree { (W.state world.new).faults ≡ (W.state world.old).faults }
     ensures book { (W.runs world.new).book ≡ (W.runs world.old).book }
     ensures few { OnOk result (tally.new.good ≤ tally.old.good + 1) }
     ensures failed { W.tells → IfOk result (λ failed. failed
@@ -151,7 +176,8 @@ fn run_parts<W: Spawner, K: Sink>(
     requires idle { IsIdle (W.runs world.old) }
     requires few { length parts.now < 2 ^ 32 }
     ensures idle { IsIdle (W.runs world.new) }
-    ensures tree { SameTree (W.state world.old) (W.state world.new) }
+    ensures files { (W.state world.new).files ≡ (W.state world.old).files }
+    ensures tree { (W.state world.new).faults ≡ (W.state world.old).faults }
     ensures book { (W.runs world.new).book ≡ (W.runs world.old).book }
     ensures tally { W.tells → IfOk result (λ tally. tally
         ≡ with_all parts.now (clean (W.effect (W.runs world.old).book) (W.state world.old).files parts.now) nothing_yet) }
@@ -195,7 +221,8 @@ pub fn run_plan<W: Spawner, K: Sink>(
     requires idle { IsIdle (W.runs world.old) }
     requires few { length parts.now < 2 ^ 32 }
     ensures idle { IsIdle (W.runs world.new) }
-    ensures tree { SameTree (W.state world.old) (W.state world.new) }
+    ensures files { (W.state world.new).files ≡ (W.state world.old).files }
+    ensures tree { (W.state world.new).faults ≡ (W.state world.old).faults }
     ensures book { (W.runs world.new).book ≡ (W.runs world.old).book }
     ensures status { W.tells → IfOk result (λ status. status
         ≡ status_of (clean (W.effect (W.runs world.old).book) (W.state world.old).files parts.now)) }

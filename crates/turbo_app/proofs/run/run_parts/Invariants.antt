@@ -1,5 +1,5 @@
 use Rattle.std.proofs.Common.{◌≡◌, ◌≤◌, ◌++◌, drop}
-use Rattle.spawn_dev.specs.Spawn.{IsIdle, SameTree}
+use Rattle.spawn_dev.specs.Spawn.{IsIdle}
 use Rattle.turbo_app.specs.Clean.{clean, steps_from}
 use Rattle.turbo_app.specs.Page.{blocks}
 use Rattle.turbo_app.specs.Tallies.{with_all, nothing_yet}
@@ -15,7 +15,8 @@ invariant-loop-part g l =
     let left = drop l.part-index l.parts in
     record {
       idle : IsIdle now;
-      tree : SameTree (g.W.Tree.state l.initial.world) (g.W.Tree.state l.world);
+      same : (g.W.Tree.state l.world).files ≡ (g.W.Tree.state l.initial.world).files;
+      tree : (g.W.Tree.state l.world).faults ≡ (g.W.Tree.state l.initial.world).faults;
       book : now.book ≡ old.book;
       start : now.faults ≡ old.faults;
       sink : g.K.Sink.faults l.out ≡ g.K.Sink.faults l.initial.out;

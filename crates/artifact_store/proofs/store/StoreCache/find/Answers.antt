@@ -8,7 +8,8 @@ use Rattle.record_log.specs.Answers.{entry_of}
 use Rattle.cache_api.specs.declared.artifact.Artifact.{Artifact as Held}
 use Rattle.cache_api.specs.Artifacts.{Artifact, artifact, ascends}
 use Rattle.cache_api.specs.Reading.{artifact_in}
-use Rattle.cache_api.specs.Found.{given, or_else, found, owns_all}
+use Rattle.cache_api.specs.Found.{given, or_else, found}
+use Rattle.globs.specs.OwnedFiles.{owns_all}
 use Rattle.cache_api.specs.Pairs.{Pair}
 use Rattle.artifact_store.specs.Pairs.{pair_of, pairs_in}
 use Rattle.artifact_store.specs.Laws.{images_stand}

@@ -5,7 +5,8 @@ use Rattle.codes.specs.Views.{found_as}
 use Rattle.record_log.specs.Log.{is_whole, count_of, room_of}
 use Rattle.cache_api.specs.Artifacts.{artifact, ascends}
 use Rattle.cache_api.specs.Reading.{artifact_in}
-use Rattle.cache_api.specs.Found.{found, or_else, owns_all}
+use Rattle.cache_api.specs.Found.{found, or_else}
+use Rattle.globs.specs.OwnedFiles.{owns_all}
 use Rattle.artifact_store.specs.Store.{state_of}
 use Rattle.artifact_store.proofs.store.StoreCache.find.Given as goal
 

@@ -1,5 +1,5 @@
-use Rattle.std.specs.Prelude.{Result, Ok, Err, OnErr}
-use Rattle.os_edge.proofs.PlaceLists.{over_first}
+use Rattle.std.specs.Prelude.{Result, Ok, Err, OnErr, None}
+use Rattle.os_edge.proofs.CommandLists.{over_first}
 use Rattle.os_edge.proofs.world.OsWorldSpawner.wait.Goals as goal
 
 on_err : {A E : Type 0} (P : Type 0) (result : Result A E) → P → OnErr result P
@@ -8,5 +8,10 @@ on_err P (Err e) p = p
 
 pub returns-in_err-end-clause-failed : goal.returns-in_err-end-clause-failed
 returns-in_err-end-clause-failed g c =
-    let taken = c.take-place.ensures in
-    on_err _ c.from_residual.result (c.take-place.result.0, over_first c.args.self.now.children c.take-place.new.self c.take-place.result.0 _ _ taken.taken taken.distinct)
+    let taken = c.take-command.ensures in
+    on_err _ c.from_residual.result (c.take-command.result.0.place, over_first c.args.self.now.children c.take-command.new.self c.take-command.result.0 _ _ (λ path. None) taken.taken taken.distinct)
+
+pub returns-clause-over : goal.returns-clause-over
+returns-clause-over g c =
+    let taken = c.take-command.ensures in
+    over_first c.args.self.now.children c.take-command.new.self c.take-command.result.0 _ _ (λ path. None) taken.taken taken.distinct

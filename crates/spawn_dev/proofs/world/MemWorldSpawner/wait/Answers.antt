@@ -1,19 +1,149 @@
-use Rattle.std.proofs.Common.{ap, sym, ◌∙◌, length, ◌+◌}
-use Rattle.std.specs.Prelude.{Result, Ok, Err, OnErr}
-use Rattle.spawn_dev.specs.Progress.{runs_at}
+use Rattle.std.proofs.Common.{◌≡◌, ap, sym, ◌∙◌, length, ◌+◌}
+use Rattle.rel_path.specs.Files.{file_at, over}
+use Rattle.spawn_dev.specs.Progress.{runs_at, will_at, held_at}
+use Rattle.spawn_dev.proofs.Ends.{on_err, over_outside, same_outside, absent_then, over_taken, others_taken}
 use Rattle.spawn_dev.proofs.world.MemWorldSpawner.wait.Goals as goal
 
-on_err : {A E : Type 0} (P : Type 0) (result : Result A E) → P → OnErr result P
-on_err P (Ok a) p = tt
-on_err P (Err e) p = p
+-- ---- the wait fails
+
+pub invariant_of-self : goal.invariant_of-self
+invariant_of-self c =
+    let old = c.args.self.now in
+    let take = c.take-command in
+    let same : file_at c.fails_now.new.self.files ≡ file_at old.tree.files = ap (λ s. s.files) c.fails_now.ensures.state in
+    record {
+      absent = absent_then take.result.command.outs old.progress.running.items take.new.self.running.items (file_at old.tree.files) (file_at c.fails_now.new.self.files)
+          (same_outside take.result.command.outs (file_at old.tree.files) (file_at c.fails_now.new.self.files) same) take.ensures.freed take.ensures.held old.absent;
+    }
+
+pub returns-then-fails_now-clause-failed : goal.returns-then-fails_now-clause-failed
+returns-then-fails_now-clause-failed c =
+    let old = c.args.self.now in
+    let take = c.take-command in
+    let same : file_at c.fails_now.new.self.files ≡ file_at old.tree.files = ap (λ s. s.files) c.fails_now.ensures.state in (
+      take.result.command.place,
+      over_taken old.book old.progress.running.items take.new.self.running.items old.progress.steps.items take.new.self.steps.items old.faults c.count_fault.new.faults
+          take.result.command (file_at old.tree.files) (file_at c.fails_now.new.self.files) take.ensures.ran take.ensures.runs take.ensures.count
+          (same_outside take.result.command.outs (file_at old.tree.files) (file_at c.fails_now.new.self.files) same),
+    )
+
+pub returns-then-fails_now-clause-others : goal.returns-then-fails_now-clause-others
+returns-then-fails_now-clause-others c =
+    let old = c.args.self.now in
+    let take = c.take-command in
+    others_taken old.book old.progress.running.items take.new.self.running.items old.progress.steps.items take.new.self.steps.items old.faults c.count_fault.new.faults take.result.command.place
+    take.ensures.runs take.ensures.will
+
+-- ---- no memory for the step
+
+pub invariant_of-self-in-Break-1 : goal.invariant_of-self-in-Break-1
+invariant_of-self-in-Break-1 c =
+    let old = c.args.self.now in
+    let take = c.take-command in
+    let same : file_at c.fails_now.new.self.files ≡ file_at old.tree.files = ap (λ s. s.files) c.fails_now.ensures.state in
+    record {
+      absent = absent_then take.result.command.outs old.progress.running.items take.new.self.running.items (file_at old.tree.files) (file_at c.fails_now.new.self.files)
+          (same_outside take.result.command.outs (file_at old.tree.files) (file_at c.fails_now.new.self.files) same) take.ensures.freed take.ensures.held old.absent;
+    }
+
+pub returns-in_err-step-clause-failed : goal.returns-in_err-step-clause-failed
+returns-in_err-step-clause-failed c =
+    let old = c.args.self.now in
+    let take = c.take-command in
+    let same : file_at c.fails_now.new.self.files ≡ file_at old.tree.files = ap (λ s. s.files) c.fails_now.ensures.state in
+    on_err _ c.from_residual.result (
+      take.result.command.place,
+      over_taken old.book old.progress.running.items take.new.self.running.items old.progress.steps.items take.new.self.steps.items old.faults old.faults
+          take.result.command (file_at old.tree.files) (file_at c.fails_now.new.self.files) take.ensures.ran take.ensures.runs take.ensures.count
+          (same_outside take.result.command.outs (file_at old.tree.files) (file_at c.fails_now.new.self.files) same),
+    )
+
+pub returns-in_err-step-clause-others : goal.returns-in_err-step-clause-others
+returns-in_err-step-clause-others c =
+    let old = c.args.self.now in
+    let take = c.take-command in
+    others_taken old.book old.progress.running.items take.new.self.running.items old.progress.steps.items take.new.self.steps.items old.faults old.faults take.result.command.place
+    take.ensures.runs take.ensures.will
+
+-- ---- no memory for the files
+
+pub invariant_of-self-in-Break-branch-2 : goal.invariant_of-self-in-Break-branch-2
+invariant_of-self-in-Break-branch-2 c =
+    let old = c.args.self.now in
+    let take = c.take-command in
+    let same : file_at c.put_all.new.self.files ≡ file_at old.tree.files = ap (λ s. s.files) c.in_err-put_all.ensures.kept ∙ ap (λ s. s.files) c.fails_now.ensures.state in
+    record {
+      absent = absent_then take.result.command.outs old.progress.running.items take.new.self.running.items (file_at old.tree.files) (file_at c.put_all.new.self.files)
+          (same_outside take.result.command.outs (file_at old.tree.files) (file_at c.put_all.new.self.files) same) take.ensures.freed take.ensures.held old.absent;
+    }
+
+pub returns-in_err-put_all-clause-failed : goal.returns-in_err-put_all-clause-failed
+returns-in_err-put_all-clause-failed c =
+    let old = c.args.self.now in
+    let take = c.take-command in
+    let same : file_at c.put_all.new.self.files ≡ file_at old.tree.files = ap (λ s. s.files) c.in_err-put_all.ensures.kept ∙ ap (λ s. s.files) c.fails_now.ensures.state in
+    on_err _ c.from_residual-in_err-put_all.result (
+      take.result.command.place,
+      over_taken old.book old.progress.running.items take.new.self.running.items old.progress.steps.items take.new.self.steps.items old.faults old.faults
+          take.result.command (file_at old.tree.files) (file_at c.put_all.new.self.files) take.ensures.ran take.ensures.runs take.ensures.count
+          (same_outside take.result.command.outs (file_at old.tree.files) (file_at c.put_all.new.self.files) same),
+    )
+
+pub returns-in_err-put_all-clause-others : goal.returns-in_err-put_all-clause-others
+returns-in_err-put_all-clause-others c =
+    let old = c.args.self.now in
+    let take = c.take-command in
+    others_taken old.book old.progress.running.items take.new.self.running.items old.progress.steps.items take.new.self.steps.items old.faults old.faults take.result.command.place
+    take.ensures.runs take.ensures.will
+
+-- ---- with its files
+
+pub invariant_of-self-2 : goal.invariant_of-self-2
+invariant_of-self-2 c =
+    let old = c.args.self.now in
+    let take = c.take-command in
+    let files : file_at c.put_all.new.self.files ≡ over (file_at old.tree.files) (file_at take.result.effect.files) =
+    c.in_ok-put_all.ensures.files ∙ ap (λ s. over s.files (file_at take.result.effect.files)) c.fails_now.ensures.state in
+    let outside = over_outside take.result.command.outs take.result.effect.files (file_at old.tree.files) (file_at c.put_all.new.self.files) take.ensures.owned files in
+    let absent = absent_then take.result.command.outs old.progress.running.items take.new.self.running.items (file_at old.tree.files) (file_at c.put_all.new.self.files)
+    outside take.ensures.freed take.ensures.held old.absent in
+    record { absent = λ path held. absent path (ap (λ xs. held_at xs path) (sym c.end.ensures.running) ∙ held) }
 
 pub returns-in_err-end-clause-failed : goal.returns-in_err-end-clause-failed
 returns-in_err-end-clause-failed c =
+    let old = c.args.self.now in
+    let take = c.take-command in
+    let files : file_at c.put_all.new.self.files ≡ over (file_at old.tree.files) (file_at take.result.effect.files) =
+    c.in_ok-put_all.ensures.files ∙ ap (λ s. over s.files (file_at take.result.effect.files)) c.fails_now.ensures.state in
     on_err _ c.from_residual-in_err-end.result (
-      c.take-ended.result.place,
-      record {
-        ran = c.take-ended.ensures.ran;
-        live = ap runs_at c.end.ensures.running ∙ c.take-ended.ensures.live;
-        count = c.take-ended.ensures.count ∙ ap (λ xs. length xs + 1) (sym c.end.ensures.running);
-      },
+      take.result.command.place,
+      over_taken old.book old.progress.running.items c.end.new.self.running.items old.progress.steps.items c.end.new.self.steps.items old.faults old.faults
+          take.result.command (file_at old.tree.files) (file_at c.put_all.new.self.files) take.ensures.ran (ap runs_at c.end.ensures.running ∙ take.ensures.runs)
+          (take.ensures.count ∙ ap (λ xs. length xs + 1) (sym c.end.ensures.running))
+          (over_outside take.result.command.outs take.result.effect.files (file_at old.tree.files) (file_at c.put_all.new.self.files) take.ensures.owned files),
     )
+
+pub returns-in_err-end-clause-others : goal.returns-in_err-end-clause-others
+returns-in_err-end-clause-others c =
+    let old = c.args.self.now in
+    let take = c.take-command in
+    others_taken old.book old.progress.running.items c.end.new.self.running.items old.progress.steps.items c.end.new.self.steps.items old.faults old.faults take.result.command.place
+    (ap runs_at c.end.ensures.running ∙ take.ensures.runs) (ap will_at c.end.ensures.running ∙ take.ensures.will)
+
+pub returns-clause-over : goal.returns-clause-over
+returns-clause-over c =
+    let old = c.args.self.now in
+    let take = c.take-command in
+    let files : file_at c.put_all.new.self.files ≡ over (file_at old.tree.files) (file_at take.result.effect.files) =
+    c.in_ok-put_all.ensures.files ∙ ap (λ s. over s.files (file_at take.result.effect.files)) c.fails_now.ensures.state in
+    over_taken old.book old.progress.running.items c.end.new.self.running.items old.progress.steps.items c.end.new.self.steps.items old.faults old.faults
+    take.result.command (file_at old.tree.files) (file_at c.put_all.new.self.files) take.ensures.ran (ap runs_at c.end.ensures.running ∙ take.ensures.runs)
+    (take.ensures.count ∙ ap (λ xs. length xs + 1) (sym c.end.ensures.running))
+    (over_outside take.result.command.outs take.result.effect.files (file_at old.tree.files) (file_at c.put_all.new.self.files) take.ensures.owned files)
+
+pub returns-clause-others : goal.returns-clause-others
+returns-clause-others c =
+    let old = c.args.self.now in
+    let take = c.take-command in
+    others_taken old.book old.progress.running.items c.end.new.self.running.items old.progress.steps.items c.end.new.self.steps.items old.faults old.faults take.result.command.place
+    (ap runs_at c.end.ensures.running ∙ take.ensures.runs) (ap will_at c.end.ensures.running ∙ take.ensures.will)
