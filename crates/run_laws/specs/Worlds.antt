@@ -3,7 +3,6 @@ use Rattle.std.specs.Prelude.{◌≡◌, ◌≢◌, ℕ, Bool, true, false, ◌&
 use Rattle.std.specs.List.{list_any}
 use Rattle.rel_path.specs.Paths.{Path, path_eq}
 use Rattle.rel_path.specs.Files.{FileMap, file_at}
-use Rattle.globs.specs.declared.out_set.OutSet.{OutSet}
 use Rattle.globs.specs.Outputs.{takes}
 use Rattle.listing.specs.declared.part.Part.{Part}
 use Rattle.listing.specs.declared.part.Listing.{Listing}

@@ -1,9 +1,8 @@
 -- What an answer's causes rule out.
-use Rattle.std.proofs.Common.{◌≡◌, ◌≤◌, ◌<◌, ℕ, List, Ok, Err, Result, arith}
+use Rattle.std.proofs.Common.{ℕ, List, Ok, Err, arith}
 use Rattle.rel_path.specs.Files.{FileMap}
 use Rattle.literal_plan.specs.Plan.{Plans}
 use Rattle.literal_plan.specs.declared.part.Part.{Part}
-use Rattle.literal_plan.specs.declared.error.Refusal.{Refusal}
 use Rattle.literal_plan.proofs.OnePlan.{one-refusal}
 use Rattle.turbo_app.specs.declared.answer.Answer.{Answer}
 use Rattle.turbo_app.specs.declared.answer.Answer.TheVariants.{Done, Refused, TreeFault, StartFault, SinkFault, OutOfMemory}

@@ -1,7 +1,5 @@
 -- One more part of a run.
-use Rattle.std.proofs.Common.{◌≡◌, ◌≢◌, ◌<◌, ◌+◌, ◌++◌, ◌∷◌, [], ℕ, Bool, true, false, cond, List, length, get_or, drop, refl, sym, ◌∙◌, ap, append_assoc, arith, max}
-use Rattle.std.proofs.lemmas.List.{drop_more, append-nil}
-use Rattle.std.proofs.lemmas.Bool.Decides.{nat_tests}
+use Rattle.std.proofs.Common.{◌≡◌, ◌++◌, ◌∷◌, [], ℕ, true, cond, List, sym, ◌∙◌, ap, append_assoc, arith}
 use Rattle.rel_path.specs.Files.{FileMap}
 use Rattle.spawn_dev.specs.Effects.{seen_by}
 use Rattle.spawn_dev.specs.declared.command.Command.{Command}

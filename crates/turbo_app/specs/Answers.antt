@@ -1,5 +1,5 @@
 -- What the program's answers say of its devices.
-use Rattle.std.specs.Prelude.{◌≡◌, ℕ, ◌≤◌, ◌<◌, ◌-◌, ◌^◌, Result, ⊤}
+use Rattle.std.specs.Prelude.{◌≡◌, ℕ, ◌≤◌, ◌<◌, ◌-◌, ◌^◌, ⊤}
 use Rattle.rel_path.specs.Causes.{Rose}
 use Rattle.literal_plan.specs.declared.error.Refusal.{Refusal}
 use Rattle.turbo_app.specs.declared.answer.Answer.{Answer}

@@ -1,5 +1,5 @@
 -- The run of parts without a cache, one after another.
-use Rattle.std.specs.Prelude.{ℕ, ◌+◌, ◌==◌, max, Bool, true, false, not, if◌then◌else◌, List, [], ◌∷◌, ◌++◌, length}
+use Rattle.std.specs.Prelude.{ℕ, ◌+◌, ◌==◌, max, Bool, not, if◌then◌else◌, List, [], ◌∷◌, ◌++◌}
 use Rattle.rel_path.specs.Files.{FileMap}
 use Rattle.spawn_dev.specs.Effects.{Seen, seen_by}
 use Rattle.spawn_dev.specs.declared.effect.Effect.{Effect}

@@ -1,5 +1,5 @@
 -- The printed page of a run (Turborepo docs, "run": the logs of tasks behind their names, and a summary).
-use Rattle.std.specs.Prelude.{ℕ, ◌+◌, ◌==◌, Bool, true, false, not, if◌then◌else◌, List, [], ◌∷◌, ◌++◌, length, codes, decimal}
+use Rattle.std.specs.Prelude.{ℕ, ◌+◌, ◌==◌, Bool, true, false, if◌then◌else◌, List, [], ◌∷◌, ◌++◌, codes, decimal}
 use Rattle.literal_plan.specs.declared.part.Part.{Part}
 use Rattle.literal_plan.specs.Plan.{has_script}
 use Rattle.turbo_app.specs.declared.outcome.Outcome.{Outcome}

@@ -1,5 +1,5 @@
 -- How a run goes, part by part.
-use Rattle.std.specs.Prelude.{ℕ, ◌+◌, max, List, [], ◌∷◌, ◌++◌}
+use Rattle.std.specs.Prelude.{◌+◌, max, List, [], ◌++◌}
 use Rattle.literal_plan.specs.declared.part.Part.{Part}
 use Rattle.turbo_app.specs.declared.outcome.Outcome.{Outcome}
 use Rattle.turbo_app.specs.declared.tally.Tally.{Tally}

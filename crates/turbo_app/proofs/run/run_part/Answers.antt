@@ -1,5 +1,4 @@
-use Rattle.std.proofs.Common.{◌≡◌, ◌∙◌, sym, ap, true, rules}
-use Rattle.spawn_dev.specs.Effects.{seen_by}
+use Rattle.std.proofs.Common.{◌≡◌, ◌∙◌, ap, true, rules}
 use Rattle.literal_plan.specs.Plan.{has_script}
 use Rattle.spawn_dev.proofs.Alone.{alone, idle_again, owns_nothing, held_nowhere, files_same}
 use Rattle.turbo_app.proofs.Steps.{one_outcome, one_part}

@@ -1,4 +1,3 @@
-use Rattle.std.proofs.Common.{Ok}
 use Rattle.turbo_app.proofs.Causes.{never-refused, no-fault}
 use Rattle.turbo_app.proofs.top.turbo.Goals as goal
 
