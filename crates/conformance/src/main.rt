@@ -4,12 +4,17 @@
 #![tactic(auto)]
 
 mod cases;
+mod edges_section;
 mod globs_section;
 mod ignore_section;
 mod locks_section;
 mod ranges_section;
+mod spaces;
+mod workspaces_section;
 
 use anyhow::Result;
+use cases::Outcome;
+use std::alloc::Global;
 use std::rt::Files;
 use std::{env, fs};
 
@@ -18,23 +23,99 @@ fn read(rt: &(impl Files + AllocGlobal), folder: &str, file: &str) -> Result<Str
     Ok(fs::read_to_string(rt, path.as_str())?)
 }
 
+// Compares the cases of a file and prints the line of their section.
+fn section<F: Fn(Global, &str) -> Result<Outcome>>(
+    rt: &HostRuntime,
+    folder: &str,
+    file: &str,
+    name: &str,
+    cases_are: &str,
+    compare: F,
+) -> Result<()>
+    requires { F.IsAlwaysCallable compare }
+{
+    let text = read(rt, folder, file)?;
+    let outcome = compare(rt.alloc(), text.as_str())?;
+    outcome.print(rt, name, cases_are)
+}
+
+// The sections of the crates that read texts by themselves.
+fn print_texts(rt: &HostRuntime, folder: &str) -> Result<()> {
+    section(
+        rt,
+        folder,
+        "globs.jsonl",
+        "globs",
+        "globs",
+        globs_section::compare,
+    )?;
+    section(
+        rt,
+        folder,
+        "ignore.jsonl",
+        "ignore",
+        "trees",
+        ignore_section::compare,
+    )?;
+    section(
+        rt,
+        folder,
+        "ignore-real.jsonl",
+        "ignore-real",
+        "trees",
+        ignore_section::compare,
+    )?;
+    section(
+        rt,
+        folder,
+        "ignore-grid.jsonl",
+        "ignore-grid",
+        "patterns",
+        ignore_section::compare_grid,
+    )?;
+    section(
+        rt,
+        folder,
+        "ranges.jsonl",
+        "ranges",
+        "texts",
+        ranges_section::compare,
+    )
+}
+
+// The sections of the crates that read whole repositories.
+fn print_repositories(rt: &HostRuntime, folder: &str) -> Result<()> {
+    section(
+        rt,
+        folder,
+        "locks.tsv",
+        "lockfiles",
+        "locks",
+        locks_section::compare,
+    )?;
+    section(
+        rt,
+        folder,
+        "edges.jsonl",
+        "edges",
+        "dependencies",
+        edges_section::compare,
+    )?;
+    section(
+        rt,
+        folder,
+        "workspaces.jsonl",
+        "workspaces",
+        "workspaces",
+        workspaces_section::compare,
+    )
+}
+
 fn main(rt: HostRuntime) -> Result<()> {
-    let alloc = rt.alloc();
     let folder = match env::args(&rt)?.skip(1).next() {
         Some(folder) => folder,
-        None => String::from_str(alloc, ".")?,
+        None => String::from_str(rt.alloc(), ".")?,
     };
-    let text = read(&rt, folder.as_str(), "globs.jsonl")?;
-    globs_section::compare(alloc, text.as_str())?.print(&rt, "globs", "globs")?;
-    let text = read(&rt, folder.as_str(), "ignore.jsonl")?;
-    ignore_section::compare(alloc, text.as_str())?.print(&rt, "ignore", "trees")?;
-    let text = read(&rt, folder.as_str(), "ignore-real.jsonl")?;
-    ignore_section::compare(alloc, text.as_str())?.print(&rt, "ignore-real", "trees")?;
-    let text = read(&rt, folder.as_str(), "ignore-grid.jsonl")?;
-    ignore_section::compare_grid(alloc, text.as_str())?.print(&rt, "ignore-grid", "patterns")?;
-    let text = read(&rt, folder.as_str(), "ranges.jsonl")?;
-    ranges_section::compare(alloc, text.as_str())?.print(&rt, "ranges", "texts")?;
-    let text = read(&rt, folder.as_str(), "locks.tsv")?;
-    locks_section::compare(alloc, text.as_str())?.print(&rt, "lockfiles", "locks")?;
-    Ok(())
+    print_texts(&rt, folder.as_str())?;
+    print_repositories(&rt, folder.as_str())
 }

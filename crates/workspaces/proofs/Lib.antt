@@ -14,3 +14,4 @@ mod EdgeLists
 mod NeedLists
 mod MemberRows
 mod Discovering
+pub mod Apart

@@ -1,7 +1,7 @@
 -- The packages of a workspace, as its root manifest, the walked files and their bytes say (npm docs, "workspaces").
-use Rattle.std.specs.Prelude.{ℕ, ◌≡◌, ◌==◌, ◌&&◌, ◌⊎◌, Bool, true, false, not, if◌then◌else◌, List, [], ◌∷◌, ◌++◌, length, Option, Some, None, Result, Ok, Err, MatchResult, map, filter, unwrap_or, bytes_eq, codes}
+use Rattle.std.specs.Prelude.{ℕ, ◌≡◌, ◌≢◌, ◌==◌, ◌&&◌, ◌⊎◌, Bool, true, false, not, if◌then◌else◌, List, [], ◌∷◌, ◌++◌, length, Option, Some, None, Result, Ok, Err, MatchResult, AllPairs, map, filter, unwrap_or, bytes_eq, codes}
 use Rattle.std.specs.Option.{option_map}
-use Rattle.std.specs.List.{filter_map}
+use Rattle.std.specs.List.{AllByRecursion, filter_map}
 use Rattle.std.specs.List.Sorted.{IsStrictlySortedBy}
 use Rattle.rel_path.specs.Paths.{Path, name_cmp, path_cmp, strip}
 use Rattle.rel_path.specs.Files.{FileMap}
@@ -127,6 +127,12 @@ Discovers meant result = MatchResult result (λ a. meant ≡ Ok a) (λ e. (e ≡
 
 -- ---- what holds of every workspace
 
--- names ascend, each once
+-- neither folder is the other, nor lies in it
+abbrev pub AreApart : Path → Path → Type 0
+AreApart first second = (strip first second ≡ None) × (strip second first ≡ None)
+
+-- names ascend, each once; no package's folder is the root, that of another package, or a folder in that
 pub record IsProper (space : Space) : Type 0 where
   pub names : IsStrictlySortedBy name_cmp (map (λ member. member.name) space.packages)
+  pub below_root : AllByRecursion (λ member. member.folder ≢ []) space.packages
+  pub apart : AllPairs (λ p q. AreApart p.folder q.folder) space.packages

@@ -1,11 +1,11 @@
 // The packages of a workspace, found in a tree.
-ghost use Rattle.std.specs.Prelude.{◌≡◌, ◌<◌, ◌^◌, false, length, IfOk, MatchResult, None};
+ghost use Rattle.std.specs.Prelude.{◌≡◌, ◌<◌, ◌^◌, false, length, AllPairs, IfOk, MatchResult, None};
 ghost use Rattle.rel_path.specs.Paths.{Path};
 ghost use Rattle.tree_dev.specs.Tree.{Looks};
 ghost use Rattle.manifest.specs.Manifest.{AreAscending};
 ghost use Rattle.workspaces.specs.Lists.{ascending};
 ghost use Rattle.workspaces.specs.Order.{package_cmp};
-ghost use Rattle.workspaces.specs.Space.{space_of, checks_fault, Discovers};
+ghost use Rattle.workspaces.specs.Space.{space_of, checks_fault, AreApart, Discovers};
 ghost use Rattle.workspaces.specs.Reading.{DifferByFolder};
 ghost use Rattle.workspaces.specs.Steps.{HasCause, MayRefuse, AscendingNames};
 
@@ -26,6 +26,7 @@ fn checked(packages: Vec<Package>) -> Result<Vec<Package>, SpaceErr>
         (λ sorted. (checks_fault packages.items ≡ None) × (sorted.items ≡ ascending package_cmp packages.items))
         (MayRefuse (checks_fault packages.items)) }
     ensures names { IfOk result (λ sorted. AscendingNames sorted.items) }
+    ensures apart { IfOk result (λ sorted. AllPairs (λ p q. AreApart p.folder q.folder) sorted.items) }
     ensures few { IfOk result (λ sorted. length sorted.items < 2 ^ 32) }
     ensures no_failure { HasCause 0 0 result }
 {

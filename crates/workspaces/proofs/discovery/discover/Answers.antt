@@ -5,6 +5,7 @@ use Rattle.rel_path.proofs.PathLaws.{path_cmp_total}
 use Rattle.workspaces.specs.Space.{Space, folders_in}
 use Rattle.workspaces.specs.Entries.{globs_of}
 use Rattle.workspaces.proofs.Order.{sorted-ascending}
+use Rattle.workspaces.proofs.Apart.{all_below_root}
 use Rattle.workspaces.proofs.Discovering.{bad_globs, bad_read, bad_check, whole, maps_ascend, all_found}
 use Rattle.workspaces.proofs.discovery.discover.Goals as goal
 
@@ -37,6 +38,16 @@ new-requires-clause-fit g c =
       names = p.names;
       few = p.few;
       maps = rw p.found.1 (maps_ascend c.as_slice-2.result.now c.in-Ok.packages.items c.in-Ok.ensures.own);
+    }
+
+pub new-requires-clause-proper : goal.new-requires-clause-proper
+new-requires-clause-proper g c =
+    let are : c.as_slice-2.result.now ≡ folders_in (globs_of c.args.root) c.args.walk.now = c.as_slice-2.ensures.value ∙ (c.in_ok-folders.ensures.value ∙ (ap (λ gs. folders_in gs c.as_slice.result.now) c.in_ok-globs.ensures.found.1 ∙ ap (λ w. folders_in (globs_of c.args.root) w) c.as_slice.ensures)) in
+    let p = c.in_ok-packages.ensures in
+    record {
+      names = p.names;
+      below_root = rw p.found.1 (all_below_root (globs_of c.args.root) c.args.walk.now c.as_slice-2.result.now c.in-Ok.packages.items are c.in-Ok.ensures.own);
+      apart = p.apart;
     }
 
 pub returns-clause-found : goal.returns-clause-found
