@@ -1,0 +1,5 @@
+use Rattle.task_graph.proofs.Fronts.{Reaching}
+use Rattle.task_graph.proofs.reached.reached.Given as goal
+
+abbrev pub invariant-loop-turn : goal.invariant-loop-turn
+invariant-loop-turn l = Reaching l.packages.packages l.config l.fn.starts.items l.front.rows.entries l.front.waiting.items

@@ -1,0 +1,16 @@
+pub mod Memory
+pub mod Ids
+pub mod Tasks
+pub mod Entries
+pub mod Edges
+pub mod Nodes
+pub mod Graphs
+pub mod Plans
+pub mod Cycles
+pub mod Laws
+pub mod Persistent
+pub mod Inside
+pub mod Rows
+pub mod Sorting
+pub mod Ways
+pub mod Fronts

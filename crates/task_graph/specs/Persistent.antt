@@ -1,0 +1,28 @@
+-- Tasks that do not end by themselves or want an answer (Turborepo, "persistent", "interactive" and "with").
+use Rattle.std.specs.Prelude.{ℕ, ◌&&◌, ◌||◌, Bool, true, false, not, List, [], ◌∷◌, Option, Some, None}
+use Rattle.turbo_config.specs.declared.task_id.TaskId.{TaskId}
+use Rattle.turbo_config.specs.declared.entry.TaskDef.{TaskDef}
+use Rattle.turbo_config.specs.Setup.{Setup, task_def}
+use Rattle.workspaces.specs.declared.member.Package.{Package}
+use Rattle.workspaces.specs.Edges.{has_name}
+use Rattle.task_graph.specs.Tasks.{package_named}
+
+abbrev pub script_in : Option Package → List ℕ → Bool
+script_in None task = false
+script_in (Some member) task = has_name task member.manifest.scripts
+
+-- the package's manifest has a script of the task's name
+abbrev pub has_script : List Package → TaskId → Bool
+has_script packages id = script_in (package_named packages id.«package») id.task
+
+abbrev pub is_empty : List (List ℕ) → Bool
+is_empty [] = true
+is_empty (text ∷ texts) = false
+
+abbrev pub stays : Option TaskDef → Bool
+stays None = false
+stays (Some def) = def.persistent || (def.interactive || not (is_empty def.with_tasks))
+
+-- it has a script, and is `persistent`, is `interactive` or has `with`
+unfoldable pub is_persistent : List Package → Setup → TaskId → Bool
+is_persistent packages config id = has_script packages id && stays (task_def config id.«package» id.task)

@@ -1,0 +1,91 @@
+// The tasks that the words of a command line name.
+ghost use Rattle.std.specs.Prelude.{◌≡◌, ◌++◌, ◌⊎◌, not, length, MatchResult, IfOk, OnOk, Ok, Err};
+ghost use Rattle.std.specs.Bool.{OnTrue};
+ghost use Rattle.std.specs.List.Sorted.{IsStrictlySortedBy};
+ghost use Rattle.rel_path.specs.Paths.{name_cmp};
+ghost use Rattle.turbo_config.specs.Setup.{AreNames, is_among};
+ghost use Rattle.workspaces.specs.Reach.{AreBelow};
+ghost use Rattle.task_graph.specs.declared.error.GraphErr.TheVariants.{NoSuchTask, OutOfMemory};
+ghost use Rattle.task_graph.specs.Entries as spec;
+ghost use Rattle.task_graph.specs.Memory.{OnlyMemory};
+
+use crate::GraphErr;
+use crate::lookup::{add_tasks, full_id, is_task};
+use rel_path::{Places, Text, Texts};
+use std::alloc::Global;
+use turbo_config::{Config, TaskId};
+use workspaces::Packages;
+
+/// Whether the name is among names that ascend.
+fn is_among(names: &[Text], name: &Text) -> bool
+    requires { IsStrictlySortedBy name_cmp names.now }
+    ensures { result ≡ is_among names.now name.now }
+{
+    match names.binary_search(name) {
+        Ok(_) => true,
+        Err(_) => false,
+    }
+}
+
+/// Adds the tasks that a word names, or answers that it names nothing.
+#[tactic(auto, unfolding(crate::specs::Entries::word_tasks, crate::specs::Entries::is_unknown))]
+fn add_word(
+    alloc: Global,
+    packages: &Packages,
+    config: &Config,
+    names: &[Text],
+    selected: &[u32],
+    word: &Text,
+    tasks: &mut Vec<TaskId>,
+) -> Result<bool, GraphErr>
+    requires names { AreNames config.now names.now }
+    requires selected { AreBelow (length packages.now.packages) selected.now }
+    ensures known { IfOk result (λ known. known ≡ not (spec.is_unknown packages.now.packages config.now word.now)) }
+    ensures added { IfOk result (λ known. OnTrue known (tasks.new.items ≡ tasks.old.items ++ spec.word_tasks packages.now.packages config.now selected.now word.now)) }
+    ensures memory { OnlyMemory result }
+{
+    if let Some(id) = full_id(alloc, word.as_str())? {
+        if !is_task(alloc, packages, config, &id)? {
+            return Ok(false);
+        }
+        tasks.push(id)?;
+        return Ok(true);
+    }
+    if !is_among(names, word) {
+        return Ok(false);
+    }
+    add_tasks(alloc, packages, config, selected, word, tasks)?;
+    Ok(true)
+}
+
+/// The tasks that the words name.
+pub(crate) fn entry_tasks(
+    alloc: Global,
+    words: &Texts,
+    selected: &Places,
+    packages: &Packages,
+    config: &Config,
+) -> Result<Vec<TaskId>, GraphErr>
+    requires { AreBelow (length packages.now.packages) selected.now }
+    ensures { MatchResult result
+        (λ tasks. spec.entry_tasks packages.now.packages config.now selected.now words.now ≡ Ok tasks.items)
+        (λ e. (e ≡ OutOfMemory) ⊎ (spec.entry_tasks packages.now.packages config.now selected.now words.now ≡ Err e)) }
+{
+    let names = config.names(alloc)?;
+    let selected = selected.as_slice();
+    let mut tasks = Vec::new(alloc);
+    for word in words.as_slice() {
+        if !add_word(
+            alloc,
+            packages,
+            config,
+            names.as_slice(),
+            selected,
+            word,
+            &mut tasks,
+        )? {
+            return Err(GraphErr::NoSuchTask { name: word.copy()? });
+        }
+    }
+    Ok(tasks)
+}

@@ -1,0 +1,96 @@
+// Packages by name, and which tasks they have.
+ghost use Rattle.workspaces.specs.Reach.{AreBelow};
+ghost use Rattle.std.specs.Prelude.{◌≡◌, ◌<◌, ◌++◌, length, IfOk, OnOk, MatchOption, None, Some, if◌then◌else◌};
+ghost use Rattle.std.specs.List.{HoldsAt};
+ghost use Rattle.task_graph.specs.Tasks as spec;
+ghost use Rattle.task_graph.specs.Memory.{OnlyMemory};
+
+use crate::GraphErr;
+use rel_path::Text;
+use std::alloc::Global;
+use std::cmp::Ordering;
+use turbo_config::{Config, TaskId};
+use workspaces::Packages;
+
+/// The number of the package of that name.
+pub(crate) fn package_by(packages: &Packages, name: &Text) -> Option<u32>
+    ensures { MatchOption result
+        (spec.package_named packages.now.packages name.now ≡ None)
+        (λ p. (p < length packages.now.packages) × HoldsAt (λ member. spec.package_named packages.now.packages name.now ≡ Some member) packages.now.packages p) }
+{
+    let mut low = 0;
+    let mut high = packages.count();
+    while low < high {
+        let middle = low + (high - low) / 2;
+        match packages.name(middle).cmp(name) {
+            Ordering::Less => low = middle + 1,
+            Ordering::Equal => return Some(middle),
+            Ordering::Greater => high = middle,
+        }
+    }
+    None
+}
+
+/// Whether the task has a definition.
+pub(crate) fn has_def(alloc: Global, config: &Config, id: &TaskId) -> Result<bool, GraphErr>
+    ensures value { IfOk result (λ has. has ≡ spec.has_def config.now id.now) }
+    ensures memory { OnlyMemory result }
+{
+    let def = config.task_def(alloc, &id.package, &id.task)?;
+    Ok(def.is_some())
+}
+
+/// Whether its package is there and has a definition of it.
+pub(crate) fn is_task(
+    alloc: Global,
+    packages: &Packages,
+    config: &Config,
+    id: &TaskId,
+) -> Result<bool, GraphErr>
+    ensures value { IfOk result (λ is. is ≡ spec.is_task packages.now.packages config.now id.now) }
+    ensures memory { OnlyMemory result }
+{
+    if package_by(packages, &id.package).is_none() {
+        return Ok(false);
+    }
+    has_def(alloc, config, id)
+}
+
+/// The task that a text `package#task` names, if it is one.
+pub(crate) fn full_id(alloc: Global, text: &str) -> Result<Option<TaskId>, GraphErr>
+    ensures value { IfOk result (λ id. id ≡ (if spec.is_full text.now then Some (spec.full_id text.now) else None)) }
+    ensures memory { OnlyMemory result }
+{
+    match text.split_once('#') {
+        None => Ok(None),
+        Some((package, task)) => {
+            let package = Text::read(alloc, package)?;
+            let task = Text::read(alloc, task)?;
+            Ok(Some(TaskId { package, task }))
+        }
+    }
+}
+
+/// Adds the task of that name of each of these packages, where it has a definition.
+pub(crate) fn add_tasks(
+    alloc: Global,
+    packages: &Packages,
+    config: &Config,
+    places: &[u32],
+    name: &Text,
+    tasks: &mut Vec<TaskId>,
+) -> Result<(), GraphErr>
+    requires { AreBelow (length packages.now.packages) places.now }
+    ensures added { OnOk result (tasks.new.items ≡ tasks.old.items ++ spec.tasks_in packages.now.packages config.now places.now name.now) }
+    ensures memory { OnlyMemory result }
+{
+    for p in places {
+        let package = packages.name(*p).copy()?;
+        let task = name.copy()?;
+        let id = TaskId { package, task };
+        if has_def(alloc, config, &id)? {
+            tasks.push(id)?;
+        }
+    }
+    Ok(())
+}
