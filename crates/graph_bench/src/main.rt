@@ -3,9 +3,6 @@
 //! Words: two counts of tasks; without words it says these.
 #![tactic(auto)]
 
-ghost use Rattle.std.specs.Prelude.{◌<◌, length, IfOk};
-ghost use Rattle.workspaces.specs.Reach.{AreBelow};
-
 use anyhow::{Result, bail};
 use manifest::Manifest;
 use rel_path::{Bytes, Files, Places, RelPath, Text, Texts};
@@ -18,8 +15,17 @@ use tree_walk::walk;
 use turbo_config::{Config, RootConfig};
 use workspaces::{Packages, discover};
 
-/// How far back the tasks stand on which each task depends.
-const BACK: [u32; 5] = [1, 2, 3, 5, 8];
+/// The tasks that stand 1, 2, 3, 5 and 8 places back.
+fn push_deps(alloc: Global, text: &mut String, task: u32) -> Result<()> {
+    for back in [1u32, 2, 3, 5, 8] {
+        if back <= task {
+            let between = if back == 1 { "" } else { "," };
+            let dep = format!(in alloc; "{between}\"t{}\"", task - back)?;
+            text.push_str(dep.as_str())?;
+        }
+    }
+    Ok(())
+}
 
 fn push_task(alloc: Global, text: &mut String, task: u32) -> Result<()> {
     if task > 0 {
@@ -27,14 +33,7 @@ fn push_task(alloc: Global, text: &mut String, task: u32) -> Result<()> {
     }
     let key = format!(in alloc; "\"t{task}\":{{\"dependsOn\":[")?;
     text.push_str(key.as_str())?;
-    let mut between = "";
-    for back in BACK {
-        if back <= task {
-            let dep = format!(in alloc; "{between}\"t{}\"", task - back)?;
-            text.push_str(dep.as_str())?;
-            between = ",";
-        }
-    }
+    push_deps(alloc, text, task)?;
     text.push_str("]}")?;
     Ok(())
 }
@@ -60,32 +59,54 @@ fn packages(alloc: Global) -> Result<Packages> {
     Ok(discover(alloc, &mut tree, root, &walk)?)
 }
 
-/// All packages.
-fn all_places(alloc: Global, packages: &Packages) -> Result<Places>
-    ensures { IfOk result (AreBelow (length packages.now.packages)) }
-{
-    let mut places = Places::new(alloc);
-    for p in 0..packages.count() {
-        places.push(p)?;
-    }
-    Ok(places)
+/// A repository with the tasks of one package.
+#[derive(Drop)]
+struct Repo {
+    packages: Packages,
+    config: Config,
 }
 
-/// The microseconds that the graph and the plan of the last task take, and how many tasks it has.
-fn measure(rt: &HostRuntime, count: u32) -> Result<(u128, usize)> {
-    let alloc = rt.alloc();
-    let root = RootConfig::read(alloc, turbo_text(alloc, count)?.as_bytes())?;
-    let config = Config::new(alloc, Some(root), Vec::new(alloc), Texts::new(alloc))?;
+fn config(alloc: Global, count: u32) -> Result<Config> {
+    let text = turbo_text(alloc, count)?;
+    let root = RootConfig::read(alloc, text.as_bytes())?;
+    let none = Vec::new(alloc);
+    Ok(Config::new(alloc, Some(root), none, Texts::new(alloc))?)
+}
+
+fn repo_of(alloc: Global, count: u32) -> Result<Repo> {
     let packages = packages(alloc)?;
-    let places = all_places(alloc, &packages)?;
+    let config = config(alloc, count)?;
+    Ok(Repo { packages, config })
+}
+
+/// The name of the last task.
+fn words(alloc: Global, count: u32) -> Result<Texts> {
     let mut words = Texts::new(alloc);
-    let last = format!(in alloc; "t{}", count.saturating_sub(1))?;
+    let last = format!(in alloc; "app#t{}", count.saturating_sub(1))?;
     words.push(Text::from_string(last))?;
-    let began = Instant::now(rt)?;
-    let graph = expand(alloc, &words, &places, &packages, &config)?;
+    Ok(words)
+}
+
+/// The graph of the words and its plan: how many tasks it has.
+fn planned(alloc: Global, repo: &Repo, words: &Texts) -> Result<usize> {
+    let none = Places::new(alloc);
+    let graph = expand(alloc, words, &none, &repo.packages, &repo.config)?;
     let plan = graph.order(alloc)?;
+    Ok(plan.ids.as_slice().len())
+}
+
+/// The microseconds that it takes.
+fn timed(rt: &HostRuntime, repo: &Repo, words: &Texts) -> Result<(u128, usize)> {
+    let began = Instant::now(rt)?;
+    let tasks = planned(rt.alloc(), repo, words)?;
     let took = began.elapsed(rt)?.as_micros();
-    Ok((took, plan.ids.as_slice().len()))
+    Ok((took, tasks))
+}
+
+fn measure(rt: &HostRuntime, count: u32) -> Result<(u128, usize)> {
+    let repo = repo_of(rt.alloc(), count)?;
+    let words = words(rt.alloc(), count)?;
+    timed(rt, &repo, &words)
 }
 
 /// Both counts, with the ratio of their times.
