@@ -11,6 +11,8 @@ mod owned;
 #[cfg(test)]
 mod scripts;
 #[cfg(test)]
+mod stores;
+#[cfg(test)]
 mod system;
 #[cfg(test)]
 mod trees;

@@ -14,8 +14,8 @@ use std::test::Fail;
 use std::{env, fs, process};
 use tree_dev::{DevErr, Tree};
 
-// Goes into a new folder below that for temporary files.
-fn enter(rt: &HostRuntime, name: &str) -> Result<String, Fail> {
+/// Goes into a new folder below that for temporary files.
+pub fn enter(rt: &HostRuntime, name: &str) -> Result<String, Fail> {
     let number = process::id(rt.process());
     let parent = env::temp_dir(rt)?;
     let folder = format!(in rt.alloc(); "{}/turbo-{name}-{number}", parent.as_str())?;
@@ -24,7 +24,8 @@ fn enter(rt: &HostRuntime, name: &str) -> Result<String, Fail> {
     Ok(folder)
 }
 
-fn leave(rt: &HostRuntime, folder: String) -> Result<(), Fail> {
+/// Removes the folder with all in it.
+pub fn leave(rt: &HostRuntime, folder: String) -> Result<(), Fail> {
     env::set_current_dir(rt, "/")?;
     fs::remove_dir_all(rt, folder.as_str())?;
     Ok(())

@@ -9,8 +9,10 @@ mod files;
 mod folders;
 mod shell;
 mod sink;
+mod store;
 mod world;
 
 pub use arguments::{WordErr, environment, words};
 pub use sink::OsSink;
+pub use store::OsStore;
 pub use world::OsWorld;

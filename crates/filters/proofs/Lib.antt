@@ -1,0 +1,5 @@
+mod Strips
+mod Decides
+mod Places
+mod Marking
+mod Taking

@@ -1,0 +1,5 @@
+pub mod Words
+pub mod Names
+pub mod Selection
+pub mod Steps
+pub mod Sides

@@ -1,0 +1,147 @@
+// The file of a store.
+ghost use Rattle.std.specs.Prelude.{◌≡◌, [], true, false, Ok, IfOk, IsErr, OnErr};
+ghost use Rattle.std.specs.Fs.{asks_read, asks_write, asks_append, asks_truncate, asks_create, asks_create_new};
+ghost use Rattle.rel_path.specs.Causes.{Counts};
+ghost use Rattle.store_dev.specs.Errors.{is_fault, OnlyFails};
+
+use std::alloc::Global;
+use std::fs::{File, OpenOptions};
+use std::io::ErrorKind;
+use std::os::unix::fs::FileExt;
+use std::rt::Files;
+use std::{fs, io};
+use store_dev::{StoreDevice, StoreErr};
+use tree_dev::count_fault;
+
+const FOLDER: &str = ".turbo";
+
+const PATH: &str = ".turbo/store.turb";
+
+/// The file `.turbo/store.turb` of the current folder, with a count of its faults. The first call of
+/// [`StoreDevice`] opens it, and makes it and its folder where they are not there. It tells no bytes. Its count of
+/// faults stands still at the last value of a u64.
+#[derive(Drop)]
+pub struct OsStore<R> {
+    rt: R,
+    file: Option<File>,
+    faults: u64,
+}
+
+impl<R: Files<File = File>> OsStore<R> {
+    /// The device, which touches no file yet. It takes no memory.
+    pub fn new(rt: R) -> OsStore<R>
+        ensures { ⟦<OsStore<R> as StoreDevice>⟧.store_faults result ≡ 0 }
+    {
+        OsStore {
+            rt,
+            file: None,
+            faults: 0,
+        }
+    }
+}
+
+// The open file. After an opening that failed it is opened anew.
+fn opened<'a, R: Files<File = File>>(rt: &R, file: &'a mut Option<File>) -> io::Result<&'a File> {
+    match file {
+        Some(file) => Ok(file),
+        None => Ok(file.insert(open(rt)?)),
+    }
+}
+
+// A file is made where none stands, and one that stands keeps its bytes.
+fn options() -> OpenOptions
+    ensures reads { asks_read result ≡ true }
+    ensures writes { asks_write result ≡ true }
+    ensures made { asks_create result ≡ true }
+    ensures kept { asks_create_new result ≡ false }
+    ensures whole { asks_truncate result ≡ false }
+    ensures in_place { asks_append result ≡ false }
+{
+    let mut options = OpenOptions::new();
+    options.read(true).write(true).create(true);
+    options
+}
+
+// A link is followed. What is no regular file is an error: a disk would be written over.
+fn open<R: Files<File = File>>(rt: &R) -> io::Result<File> {
+    fs::create_dir_all(rt, FOLDER)?;
+    let file = options().open(rt, PATH)?;
+    if !file.metadata()?.is_file() {
+        return Err(io::Error::from(ErrorKind::InvalidInput));
+    }
+    sync_folder(rt, FOLDER)?;
+    sync_folder(rt, ".")?;
+    Ok(file)
+}
+
+// After it a crash leaves the names in the folder. A file that was found needs it too: the process that made it
+// may have been stopped before it came to this.
+fn sync_folder<R: Files<File = File>>(rt: &R, folder: &str) -> io::Result<()> {
+    let folder = fs::open(rt, folder)?;
+    folder.sync_all()
+}
+
+// Counts each error. No call takes memory of the program: where the system has none, that is a fault too.
+fn counted<T>(faults: &mut u64, outcome: io::Result<T>) -> Result<T, StoreErr>
+    ensures value { IfOk result (λ x. outcome ≡ Ok x) }
+    ensures error { OnErr result (IsErr outcome) }
+    ensures only { OnlyFails result }
+    ensures cause { Counts is_fault faults.old faults.new result }
+{
+    match outcome {
+        Ok(value) => Ok(value),
+        Err(_) => {
+            count_fault(faults);
+            Err(StoreErr::Failed)
+        }
+    }
+}
+
+impl<R: Files<File = File>> StoreDevice for OsStore<R> {
+    ghost tells = { ⊥ };
+
+    ghost content = { λ _. [] };
+
+    ghost images = { λ _ _. ⊥ };
+
+    ghost moment = { λ _. 0 };
+
+    ghost images_since = { λ _ _ _. ⊥ };
+
+    ghost store_faults = { λ s. s.faults };
+
+    ghost are_bytes = { λ _ told. absurd told };
+
+    ghost few_bytes = { λ _ told. absurd told };
+
+    ghost as_it_reads = { λ _ told. absurd told };
+
+    ghost counts_now = { λ _ _ _ _ left. left };
+
+    ghost only_now = { λ _ _ left. left };
+
+    fn len(&mut self) -> Result<u64, StoreErr> {
+        let file = opened(&self.rt, &mut self.file);
+        let metadata = file.and_then(|file| file.metadata());
+        let outcome = metadata.map(|metadata| metadata.len());
+        counted(&mut self.faults, outcome)
+    }
+
+    fn read_at(&mut self, at: u64, buf: &mut [u8]) -> Result<(), StoreErr> {
+        let file = opened(&self.rt, &mut self.file);
+        let outcome = file.and_then(|file| file.read_exact_at(buf, at));
+        counted(&mut self.faults, outcome)
+    }
+
+    fn write_at(&mut self, _alloc: Global, at: u64, bytes: &[u8]) -> Result<(), StoreErr> {
+        let file = opened(&self.rt, &mut self.file);
+        let outcome = file.and_then(|file| file.write_all_at(bytes, at));
+        counted(&mut self.faults, outcome)
+    }
+
+    fn sync(&mut self) -> Result<(), StoreErr> {
+        let file = opened(&self.rt, &mut self.file);
+        let outcome = file.and_then(|file| file.sync_all());
+        counted(&mut self.faults, outcome)
+    }
+}
