@@ -1,0 +1,10 @@
+pub mod Lists
+mod Texts
+mod Paths
+mod Readings
+mod Installed
+mod Spots
+mod Jobs
+mod Asked
+mod IgnoreRules
+mod Whole

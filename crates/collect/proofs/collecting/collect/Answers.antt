@@ -1,0 +1,49 @@
+use Rattle.std.proofs.Common.{ap, sym, ◌∙◌, length, arith}
+use Rattle.collect.proofs.Whole.{stop_plan, stop_rules, stop_gather, stop_total, collected, rules_among, tasks_stand, tasks_count, uses_count, rows_count, rows_below, made_as}
+use Rattle.collect.proofs.collecting.collect.Goals as goal
+
+pub returns-in-Err-clause-collects : goal.returns-in-Err-clause-collects
+returns-in-Err-clause-collects g c = λ told. stop_plan _ _ _ _ c.args.env.now _ _ c.in-Err.e c.in-Err.ensures
+
+pub read_all-requires : goal.read_all-requires
+read_all-requires g c = record { free = λ path e. c.requires.free path (rules_among _ _ _ _ c.args.env.now _ c.in-Ok.plan c.in-Ok.ensures c.as_slice.result.now c.as_slice.ensures path e) }
+
+pub returns-in-Err-read_all-clause-collects : goal.returns-in-Err-read_all-clause-collects
+returns-in-Err-read_all-clause-collects g c = λ told. stop_rules _ _ _ _ c.args.env.now _ c.in-Ok.plan c.in-Ok.ensures _ c.requires.ascend c.as_slice.result.now c.in-Err-read_all.e c.as_slice.ensures (c.in-Err-read_all.ensures.reads told)
+
+pub rows_of-requires-clause-tasks : goal.rows_of-requires-clause-tasks
+rows_of-requires-clause-tasks g c = tasks_stand _ _ _ _ c.args.env.now _ c.in-Ok.plan c.in-Ok.ensures
+
+pub returns-in-Err-gather-clause-collects : goal.returns-in-Err-gather-clause-collects
+returns-in-Err-gather-clause-collects g c = λ told.
+    stop_gather _ _ _ _ c.args.env.now _ c.in-Ok.plan c.in-Ok.ensures (g.T.Tree.state c.args.tree.now).files c.requires.ascend c.in-Ok-read_all.ignores c.as_slice.result.now c.as_slice.ensures (c.in-Ok-read_all.ensures.reads told) c.in-Ok-rows_of.rows c.in-Ok-rows_of.ensures.rows
+    (g.T.Tree.state c.read_all.new.tree).files c.in-Ok-read_all.ensures.looks.files c.deref.result.now c.deref.ensures.value c.as_slice-2.result.now c.as_slice-2.ensures c.in-Err-gather.e (c.in-Err-gather.ensures.reads told)
+
+pub returns-then-gathered-gt-SUM_LIMIT-clause-collects : goal.returns-then-gathered-gt-SUM_LIMIT-clause-collects
+returns-then-gathered-gt-SUM_LIMIT-clause-collects g c = λ told.
+    stop_total _ _ _ _ c.args.env.now _ c.in-Ok.plan c.in-Ok.ensures (g.T.Tree.state c.args.tree.now).files c.requires.ascend c.in-Ok-read_all.ignores c.as_slice.result.now c.as_slice.ensures (c.in-Ok-read_all.ensures.reads told) c.in-Ok-rows_of.rows c.in-Ok-rows_of.ensures.rows
+    (g.T.Tree.state c.read_all.new.tree).files c.in-Ok-read_all.ensures.looks.files c.deref.result.now c.deref.ensures.value c.as_slice-2.result.now c.as_slice-2.ensures c.in-Ok-gather.gathered (c.in-Ok-gather.ensures.reads told) (omega (arith, c.if-gathered-gt-SUM_LIMIT.true))
+
+pub all_parts-requires-clause-numbers : goal.all_parts-requires-clause-numbers
+all_parts-requires-clause-numbers g c = rw c.deref-3.ensures.value (tasks_stand _ _ _ _ c.args.env.now _ c.in-Ok.plan c.in-Ok.ensures)
+
+pub all_parts-requires-clause-same : goal.all_parts-requires-clause-same
+all_parts-requires-clause-same g c = ap length c.deref-2.ensures.value ∙ c.in-Ok-gather.ensures.same ∙ ap length (c.as_slice-2.ensures ∙ sym c.as_slice-3.ensures)
+
+pub all_parts-requires-clause-below : goal.all_parts-requires-clause-below
+all_parts-requires-clause-below g c = rows_below _ _ _ _ c.args.env.now _ c.in-Ok.plan c.in-Ok.ensures _ c.in-Ok-rows_of.rows c.in-Ok-rows_of.ensures.rows c.as_slice-3.result.now c.as_slice-3.ensures c.deref-4.result.now c.deref-4.ensures.value
+
+pub all_parts-requires-clause-tasks : goal.all_parts-requires-clause-tasks
+all_parts-requires-clause-tasks g c = ap length c.deref-3.ensures.value ∙ tasks_count _ _ _ _ c.args.env.now _ c.in-Ok.plan c.in-Ok.ensures
+
+pub all_parts-requires-clause-rows : goal.all_parts-requires-clause-rows
+all_parts-requires-clause-rows g c = ap length c.deref-4.ensures.value ∙ rows_count _ _ _ _ c.args.env.now _ c.in-Ok.plan c.in-Ok.ensures _ c.in-Ok-rows_of.rows c.in-Ok-rows_of.ensures.rows
+
+pub all_parts-requires-clause-uses : goal.all_parts-requires-clause-uses
+all_parts-requires-clause-uses g c = ap length c.deref-5.ensures.value ∙ uses_count _ _ _ _ c.args.env.now _ c.in-Ok.plan c.in-Ok.ensures
+
+pub returns-in-Ok-all_parts-clause-collects : goal.returns-in-Ok-all_parts-clause-collects
+returns-in-Ok-all_parts-clause-collects g c = λ told.
+    collected _ _ _ _ c.args.env.now _ c.in-Ok.plan c.in-Ok.ensures (g.T.Tree.state c.args.tree.now).files c.requires.ascend c.in-Ok-read_all.ignores c.as_slice.result.now c.as_slice.ensures (c.in-Ok-read_all.ensures.reads told) c.in-Ok-rows_of.rows c.in-Ok-rows_of.ensures.rows
+    (g.T.Tree.state c.read_all.new.tree).files c.in-Ok-read_all.ensures.looks.files c.deref.result.now c.deref.ensures.value c.as_slice-2.result.now c.as_slice-2.ensures c.in-Ok-gather.gathered (c.in-Ok-gather.ensures.reads told) c.in-Ok-all_parts.parts
+    (made_as _ _ _ _ _ _ _ _ _ _ _ _ _ _ _ _ _ (ap (λ x. x.env) c.globals.ensures.value) c.as_slice-3.ensures c.deref-2.ensures.value c.deref-3.ensures.value c.deref-4.ensures.value c.deref-5.ensures.value c.in-Ok-all_parts.ensures.value) (omega (arith, c.if-gathered-gt-SUM_LIMIT.false))

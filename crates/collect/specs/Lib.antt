@@ -1,0 +1,6 @@
+pub mod Tasks
+pub mod Parts
+pub mod Listings
+pub mod Refusals
+pub mod Cause
+pub mod Steps

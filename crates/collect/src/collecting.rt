@@ -1,0 +1,176 @@
+// The listing of wanted tasks.
+ghost use Rattle.std.specs.Prelude.{◌≡◌, ◌<◌, true, false, length, map, IfOk};
+ghost use Rattle.std.specs.Option.{option_map};
+ghost use Rattle.std.specs.List.{AllByRecursion};
+ghost use Rattle.std.specs.List.Sorted.{IsStrictlySortedBy};
+ghost use Rattle.serde_json.specs.View.{view};
+ghost use Rattle.rel_path.specs.Paths.{Path, is_among, path_cmp};
+ghost use Rattle.tree_dev.specs.Tree.{Looks};
+ghost use Rattle.ignore_rules.specs.Ignored.{is_ignored};
+ghost use Rattle.ignore_rules.specs.Stacks.{rules_at};
+ghost use Rattle.task_inputs.specs.Homes.{LieApart, home_of};
+ghost use Rattle.collect.specs.Tasks.{IsDefined};
+ghost use Rattle.collect.specs.Refusals.{Collects};
+ghost use Rattle.collect.specs.Cause.{HasCause};
+ghost use Rattle.collect.specs.Steps.{OnlyMemory, Plans, AreRows, rules_file};
+
+use crate::marks::marks_of;
+use crate::parts::all_parts;
+use crate::reading::{SUM_LIMIT, gather, read_all, rule_paths};
+use crate::rules::stack_of;
+use crate::tasks::defined_tasks;
+use crate::uses::all_uses;
+use crate::{CollectErr, Wanted};
+use listing::Listing;
+use npm_lock::Lock;
+use rel_path::{Files, Pairs, Paths, Places, Text};
+use std::alloc::Global;
+use task_inputs::{Declared, DefinedTask, input_places};
+use tree_dev::Tree;
+use turbo_config::Config;
+use workspaces::Packages;
+
+/// What is known before a file is read: the tasks by their packages' numbers and definitions, the installed packages
+/// that the package of each uses, what tasks declare, and the ignore files that count.
+#[derive(Drop)]
+struct Plan {
+    tasks: Vec<DefinedTask>,
+    uses: Vec<Pairs>,
+    declared: Declared,
+    rules: Paths,
+}
+
+fn plan_of(
+    alloc: Global,
+    walk: &Paths,
+    packages: &Packages,
+    config: &Config,
+    lock: Option<&Lock>,
+    wanted: &[Wanted],
+) -> Result<Plan, CollectErr>
+    requires apart { LieApart packages.now.packages }
+    requires tasks { AllByRecursion (λ w. IsDefined config.now packages.now.packages w.id) wanted.now }
+    ensures { Plans config.now packages.now (option_map (λ l. view l.now) lock.entry) walk.now wanted.now result }
+{
+    let tasks = match defined_tasks(alloc, packages, config, wanted) {
+        Ok(tasks) => tasks,
+        Err(_) => return Err(CollectErr::OutOfMemory),
+    };
+    let uses = match all_uses(alloc, packages, lock, &tasks) {
+        Ok(uses) => uses,
+        Err(e) => return Err(e),
+    };
+    let declared = match Declared::new(alloc, packages, config) {
+        Ok(declared) => declared,
+        Err(_) => return Err(CollectErr::OutOfMemory),
+    };
+    match rule_paths(alloc, &declared, walk.as_slice()) {
+        Ok(rules) => Ok(Plan {
+            tasks,
+            uses,
+            declared,
+            rules,
+        }),
+        Err(_) => Err(CollectErr::OutOfMemory),
+    }
+}
+
+/// The places of the tasks' files, and which places stand among them.
+#[derive(Drop)]
+struct Rows {
+    rows: Vec<Places>,
+    marks: Vec<bool>,
+}
+
+fn rows_of(
+    alloc: Global,
+    walk: &Paths,
+    packages: &Packages,
+    config: &Config,
+    plan: &Plan,
+    ignores: &Files,
+) -> Result<Rows, CollectErr>
+    requires apart { LieApart packages.now.packages }
+    requires declared { plan.now.declared ≡ map (home_of config.now) packages.now.packages }
+    requires tasks { AllByRecursion (λ t. t.«package» < length packages.now.packages) plan.now.tasks.items }
+    ensures rows { IfOk result (AreRows config.now packages.now.packages walk.now (is_ignored (rules_at (map rules_file ignores.now))) plan.now.tasks.items) }
+    ensures memory { OnlyMemory result }
+{
+    let stack = stack_of(alloc, ignores.as_slice())?;
+    let rows = input_places(
+        alloc,
+        walk,
+        &stack,
+        packages,
+        config,
+        &plan.declared,
+        &plan.tasks,
+    )?;
+    let marks = marks_of(alloc, walk.as_slice().len(), &rows)?;
+    Ok(Rows { rows, marks })
+}
+
+/// The listing of the wanted tasks: a part for each, in order, and the walked files that some of them takes, which are
+/// there, with their bytes. The order of refusals: `Missing` where the package of a wanted task needs a name that the
+/// lockfile does not have, for the first such task; `TooLarge` at the first ignore file that counts, and else the first
+/// input, of more than 16 MiB; `TooMuch` where the inputs have more than 64 MiB together. Each file is read once, none
+/// where a name is missing. Without a lockfile no package uses installed ones.
+pub fn collect<T: Tree>(
+    alloc: Global,
+    tree: &mut T,
+    walk: &Paths,
+    packages: &Packages,
+    config: &Config,
+    lock: Option<&Lock>,
+    wanted: &[Wanted],
+    env: &[(Text, Text)],
+) -> Result<Listing, CollectErr>
+    requires free { (path : Path) → is_among walk.now path ≡ true → (T.state tree.old).held path ≡ false }
+    requires ascend { IsStrictlySortedBy path_cmp walk.now }
+    requires apart { LieApart packages.now.packages }
+    requires tasks { AllByRecursion (λ w. IsDefined config.now packages.now.packages w.id) wanted.now }
+    ensures looks { Looks (T.state tree.old) (T.state tree.new) }
+    ensures collects { T.tells → Collects config.now packages.now (option_map (λ l. view l.now) lock.entry) (T.state tree.old).files walk.now env.now wanted.now result }
+    ensures cause { HasCause (T.state tree.old).faults (T.state tree.new).faults result }
+{
+    let plan = match plan_of(alloc, walk, packages, config, lock, wanted) {
+        Ok(plan) => plan,
+        Err(e) => return Err(e),
+    };
+    let ignores = match read_all(alloc, tree, plan.rules.as_slice()) {
+        Ok(ignores) => ignores,
+        Err(e) => return Err(e),
+    };
+    let rows = match rows_of(alloc, walk, packages, config, &plan, &ignores) {
+        Ok(rows) => rows,
+        Err(_) => return Err(CollectErr::OutOfMemory),
+    };
+    let gathered = match gather(alloc, tree, &ignores, walk.as_slice(), &rows.marks) {
+        Ok(gathered) => gathered,
+        Err(e) => return Err(e),
+    };
+    if gathered.total > SUM_LIMIT {
+        return Err(CollectErr::TooMuch {
+            bytes: gathered.total,
+        });
+    }
+    match all_parts(
+        alloc,
+        packages,
+        &plan.declared,
+        config.globals(),
+        env,
+        walk.as_slice(),
+        &gathered.found,
+        wanted,
+        &plan.tasks,
+        &rows.rows,
+        &plan.uses,
+    ) {
+        Ok(parts) => Ok(Listing {
+            parts,
+            files: gathered.files,
+        }),
+        Err(_) => Err(CollectErr::OutOfMemory),
+    }
+}

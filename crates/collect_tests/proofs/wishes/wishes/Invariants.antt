@@ -1,0 +1,6 @@
+use Rattle.std.specs.List.{AllByRecursion}
+use Rattle.collect.specs.Tasks.{IsDefined}
+use Rattle.collect_tests.proofs.wishes.wishes.Given as goal
+
+abbrev pub invariant-loop-package : goal.invariant-loop-package
+invariant-loop-package l = AllByRecursion (λ w. IsDefined l.config l.packages.packages w.id) l.all.items

@@ -1,0 +1,11 @@
+mod Spelling
+pub mod CommandFacts
+mod Grounds
+pub mod Steps
+pub mod Standing
+mod Arms
+pub mod Taking
+pub mod Ending
+pub mod Closing
+mod Whole
+pub mod ReportFacts

@@ -1,0 +1,56 @@
+-- What a run of a plan leaves.
+use Rattle.std.specs.Prelude.{◌≡◌, ◌≢◌, ℕ, true, false, List, ◌++◌, map, filter, length}
+use Rattle.rel_path.specs.Paths.{Path}
+use Rattle.rel_path.specs.Files.{FileMap}
+use Rattle.globs.specs.Outputs.{takes}
+use Rattle.cache_api.specs.Pairs.{Pair}
+use Rattle.page.specs.declared.blocks.Note.{Note}
+use Rattle.spawn_dev.specs.declared.command.Step.{Step as Told}
+use Rattle.run_core.specs.declared.states.Step.{Step}
+use Rattle.run_core.specs.Greedy.{IsGreedy, HaveStatus, ended, is_reported}
+use Rattle.run_laws.specs.Ancestors.{part_at, has_script}
+use Rattle.run_laws.specs.Pairs.{IsGood}
+use Rattle.run_laws.specs.Plans.{log_path}
+use Rattle.run_laws.specs.Worlds.{Leaves}
+use Rattle.run_laws.specs.Runs.{clean_pair}
+use Rattle.run_plan.specs.declared.plan.Plan.{Plan}
+use Rattle.run_plan.specs.Openings.{Opening, setting_of, tasks_of}
+use Rattle.run_plan.specs.Results.{effect_at, step_of, NotedAs, stores, ends_of, told_ends, due_pairs}
+use Rattle.run_plan.specs.Pages.{worst, page}
+
+-- What a run that came to its end leaves of files, pairs, room and steps, and which status it answers.
+--
+-- Its steps are greedy: no command that could run waits, and commands start in the order of the plan. Each command that
+-- started is that of its task, and each end is what the command does in the run without a cache. Each reported task with
+-- a script left its log and owned files, and nothing else has changed. The pairs are those of the opening, and behind
+-- them in the order of ends the results that were put. The answered status is the greatest.
+pub record Ran (plan : Plan) (o : Opening) (files : FileMap) (pairs : List Pair) (room : ℕ) (steps : List Told) (Heard : Type 0) (before after : List ℕ) (status : ℕ) : Type 0 where
+  pub mine : List Step
+  pub notes : ℕ → Note
+  pub steps_are : steps ≡ o.steps ++ map (step_of plan (setting_of plan o)) mine
+  pub greedy : IsGreedy (tasks_of plan o) mine
+  pub ends : HaveStatus mine (λ t. (effect_at (setting_of plan o) t).status)
+  pub leaves : Leaves plan.mode o.book plan.listing (is_reported (tasks_of plan o) mine) o.files files
+  pub noted : (t : ℕ) → NotedAs plan (setting_of plan o) room t (ended mine t) (notes t)
+  pub pairs_are : pairs ≡ o.pairs ++ due_pairs plan (setting_of plan o) notes (ends_of mine)
+  pub good : IsGood o.book pairs
+  pub status_is : status ≡ worst plan (setting_of plan o) (is_reported (tasks_of plan o) mine) (length plan.listing.parts)
+  pub page_is : Heard → after ≡ before ++ page plan (setting_of plan o) notes (is_reported (tasks_of plan o) mine)
+
+-- What holds of pairs and steps whatever a run answers: behind the pairs of the opening stands some first part of those
+-- that its ends add, and all are good. An end whose result was not put yet counts as one that is put.
+pub record IsSafe (plan : Plan) (o : Opening) (steps : List Told) (pairs : List Pair) : Type 0 where
+  pub mine : List Told
+  pub notes : ℕ → Note
+  pub steps_are : steps ≡ o.steps ++ mine
+  pub put : List ℕ
+  pub unput : List ℕ
+  pub pairs_are : pairs ≡ o.pairs ++ map (clean_pair (setting_of plan o)) put
+  pub due : filter (stores plan (setting_of plan o) notes) (told_ends mine) ≡ put ++ unput
+  pub good : IsGood o.book pairs
+
+-- every path that no task with a script owns, and that is no log file of one, is as before
+abbrev pub SameElsewhere : Plan → FileMap → FileMap → Type 0
+SameElsewhere plan old new = (path : Path)
+    → ((t : ℕ) → has_script (part_at plan.listing t) ≡ true → (takes (part_at plan.listing t).outs path ≡ false) × (path ≢ log_path (part_at plan.listing t)))
+    → new path ≡ old path

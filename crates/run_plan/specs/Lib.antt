@@ -1,0 +1,10 @@
+pub mod Memory
+pub mod Plans
+pub mod Commands
+pub mod Openings
+pub mod Results
+pub mod Pages
+pub mod Reports
+pub mod Answers
+pub mod Stories
+pub mod StoryLaws

@@ -1,0 +1,35 @@
+// Keys and fingerprints of tasks.
+ghost use Rattle.std.specs.Prelude.{◌≡◌, ◌<◌, length, IfOk};
+ghost use Rattle.run_laws.specs.Keys.{key_of};
+ghost use Rattle.run_plan.specs.Memory.{OnlyMemory};
+ghost use Rattle.run_plan.specs.Pages.{print_for};
+ghost use Rattle.run_plan.specs.Plans.{IsValidPlan};
+
+use crate::{Plan, PlanErr};
+use closures::closure;
+use listing::{fingerprint, key_text, short};
+use rel_path::{Bytes, Text};
+use std::alloc::Global;
+
+impl Plan {
+    /// The key under which the task's result is kept: the key text of its closure. It takes about as long as the key
+    /// text has bytes.
+    pub fn key(&self, alloc: Global, place: u32) -> Result<Bytes, PlanErr>
+        requires plan { IsValidPlan self.now }
+        requires place { place < length self.now.listing.parts }
+        ensures key { IfOk result (λ key. key ≡ key_of self.now.listing place) }
+        ensures memory { OnlyMemory result }
+    {
+        let closure = closure(alloc, &self.listing, place)?;
+        Ok(key_text(alloc, &closure)?)
+    }
+}
+
+/// The digits that are printed of the fingerprint of a key.
+pub fn print_of(alloc: Global, key: &[u8]) -> Result<Text, PlanErr>
+    ensures print { IfOk result (λ text. text ≡ print_for key.now) }
+    ensures memory { OnlyMemory result }
+{
+    let print = fingerprint(key);
+    Ok(short(alloc, &print)?)
+}

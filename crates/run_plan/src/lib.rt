@@ -1,0 +1,27 @@
+//! The plan of a run: its tasks with their parts and definitions, the command, the key, the log file and the lines of
+//! each, and what a run of it is to leave.
+//!
+//! `specs/` says when a plan is valid (`Plans`), which command a task has (`Commands`), what is to become of each task
+//! (`Results`), what the page is (`Pages`), and what a run leaves (`Answers`). `Stories` and `StoryLaws` are for whoever
+//! proves a loop: how a run came to where it is, and what each of its moves does to that. There is no device here.
+#![tactic(auto)]
+
+mod command;
+mod error;
+mod keys;
+mod laws;
+mod lists;
+mod log_file;
+mod page_text;
+mod plan;
+mod report;
+mod reports;
+mod tables;
+
+pub use error::PlanErr;
+pub use keys::print_of;
+pub use laws::story_law;
+pub use lists::{PairLists, TaskDefs};
+pub use plan::Plan;
+pub use report::Report;
+pub use reports::Reports;

@@ -1,0 +1,5 @@
+mod FileFacts
+mod BoardFacts
+mod WorldFacts
+mod ToldFacts
+mod PageFacts

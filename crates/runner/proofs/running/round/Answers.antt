@@ -1,0 +1,19 @@
+use Rattle.std.proofs.Common.{◌≡◌, ◌++◌, ◌∙◌, ap, sym}
+use Rattle.run_plan.specs.StoryLaws.{blocks_upto}
+use Rattle.runner.specs.Boards.{now_at}
+use Rattle.runner.proofs.running.round.Goals as goal
+
+pub returns-clause-stands : goal.returns-clause-stands
+returns-clause-stands g c told store o stands =
+    let mid = now_at c.turn.new.board g.W.Spawner.effect (g.W.Spawner.runs c.turn.new.world) (g.W.Tree.state c.turn.new.world) (g.C.Cache.state c.turn.new.cache).pairs (g.C.Cache.state c.turn.new.cache).room in
+    c.in_ok-show_settled.ensures.stands o mid (c.in_ok-more.ensures.stands told store o stands)
+
+pub returns-clause-page : goal.returns-clause-page
+returns-clause-page g c told store heard o before stands page =
+    let plan = c.args.plan.now in
+    let first = now_at c.args.board.now g.W.Spawner.effect (g.W.Spawner.runs c.args.world.now) (g.W.Tree.state c.args.world.now) (g.C.Cache.state c.args.cache.now).pairs (g.C.Cache.state c.args.cache.now).room in
+    let mid = now_at c.turn.new.board g.W.Spawner.effect (g.W.Spawner.runs c.turn.new.world) (g.W.Tree.state c.turn.new.world) (g.C.Cache.state c.turn.new.cache).pairs (g.C.Cache.state c.turn.new.cache).room in
+    let keeps = c.in_ok-more.ensures.settled in
+    let kept = c.story_law.ensures.kept plan o first mid first.shown (λ u h. (keeps.states_are u (c.requires.settled u h), keeps.reports_are u (c.requires.settled u h))) in
+    let same : blocks_upto plan o first first.shown ≡ blocks_upto plan o mid mid.shown = sym kept ∙ ap (blocks_upto plan o mid) (sym keeps.shown) in
+    c.in_ok-show_settled.ensures.page heard o mid before (c.in_ok-more.ensures.stands told store o stands) (page ∙ ap (λ x. before ++ x) same)

@@ -1,0 +1,11 @@
+use Rattle.runner.proofs.PageFacts.{stands-on, page-on}
+use Rattle.runner.proofs.showing.show_one.Goals as goal
+
+pub returns-clause-stands : goal.returns-clause-stands
+returns-clause-stands g c o now stands =
+    stands-on c.args.plan.now c.story_law.ensures c.args.board.now c.turn_page.new.self c.turn_page.ensures.core c.turn_page.ensures.reports c.turn_page.ensures.logs c.turn_page.ensures.shown o now stands
+
+pub returns-clause-page : goal.returns-clause-page
+returns-clause-page g c told o now before stands page =
+    page-on c.args.plan.now c.story_law.ensures c.args.board.now c.turn_page.new.self c.turn_page.ensures.core c.turn_page.ensures.reports c.turn_page.ensures.logs c.turn_page.ensures.shown o now stands
+    before (g.K.Sink.written c.args.out.now) (g.K.Sink.written c.put_block.new.out) page (c.in_ok-put_block.ensures.put told)

@@ -1,0 +1,18 @@
+//! A run of a plan over its devices: tasks are looked up in the cache and replayed, or their commands started and waited
+//! for, as many at once as the plan says; results are put into the cache, and the page is printed as it comes.
+#![tactic(auto)]
+
+mod board;
+mod devices;
+mod ending;
+mod error;
+mod looking;
+mod moves;
+mod running;
+mod showing;
+mod starting;
+mod tables;
+mod turns;
+
+pub use error::RunErr;
+pub use running::run;

@@ -1,0 +1,103 @@
+// Tables of logs and flags, with room for each task of a plan.
+ghost use Rattle.std.specs.Prelude.{◌≡◌, ◌<◌, ◌^◌, ℕ, [], false, length, IfOk};
+ghost use Rattle.spawn_dev.specs.Spawn.{put_at};
+ghost use Rattle.runner.specs.Tables.{log_in, flag_in};
+ghost use Rattle.runner.specs.Stops.{OnlyMemory};
+
+use crate::RunErr;
+use rel_path::Bytes;
+use std::alloc::Global;
+use std::marker::Model;
+
+/// The log of each task that is still to be shown.
+#[derive(Drop)]
+pub struct Logs {
+    alloc: Global,
+    items: Vec<Bytes>,
+}
+
+impl Model for Logs {
+    ghost use Rattle.std.specs.Prelude.{List, ℕ};
+
+    ghost Value = { List (List ℕ) };
+
+    ghost view = { λ l. l.items.items };
+}
+
+impl Logs {
+    /// Empty logs of so many tasks.
+    pub fn new(alloc: Global, size: usize) -> Result<Logs, RunErr>
+        ensures size { IfOk result (λ logs. length logs ≡ size) }
+        ensures memory { OnlyMemory result }
+    {
+        let mut items = Vec::with_capacity(alloc, size)?;
+        for _ in 0..size {
+            items.push(Bytes::from_vec(Vec::new(alloc)))?;
+        }
+        Ok(Logs { alloc, items })
+    }
+
+    pub fn at(&self, place: usize) -> &[u8]
+        requires { place < length self.now }
+        ensures { result.now ≡ log_in self.now place }
+    {
+        self.items[place].as_slice()
+    }
+
+    pub fn set(&mut self, place: usize, log: Bytes)
+        requires { place < length self.old }
+        ensures size { length self.new ≡ length self.old }
+        ensures set { log_in self.new ≡ put_at (log_in self.old) place log }
+    {
+        self.items[place] = log;
+    }
+
+    /// Forgets a log.
+    pub fn clear(&mut self, place: usize)
+        requires { place < length self.old }
+        ensures size { length self.new ≡ length self.old }
+        ensures set { log_in self.new ≡ put_at (log_in self.old) place [] }
+    {
+        self.items[place] = Bytes::from_vec(Vec::new(self.alloc));
+    }
+}
+
+/// A flag for each task, false at first.
+#[derive(Drop)]
+pub struct Flags {
+    items: Vec<bool>,
+}
+
+impl Model for Flags {
+    ghost use Rattle.std.specs.Prelude.{List, Bool};
+
+    ghost Value = { List Bool };
+
+    ghost view = { λ f. f.items.items };
+}
+
+impl Flags {
+    pub fn new(alloc: Global, size: usize) -> Result<Flags, RunErr>
+        ensures size { IfOk result (λ flags. length flags ≡ size) }
+        ensures none { IfOk result (λ flags. flag_in flags ≡ (λ t. false)) }
+        ensures memory { OnlyMemory result }
+    {
+        Ok(Flags {
+            items: vec![in alloc; false; size]?,
+        })
+    }
+
+    pub fn at(&self, place: usize) -> bool
+        ensures { result ≡ flag_in self.now place }
+    {
+        self.items.get(place).copied().unwrap_or(false)
+    }
+
+    pub fn set(&mut self, place: usize, flag: bool)
+        requires { place < length self.old }
+        ensures size { length self.new ≡ length self.old }
+        ensures set { flag_in self.new ≡ put_at (flag_in self.old) place flag }
+    {
+        self.items[place] = flag;
+    }
+}

@@ -1,0 +1,2 @@
+mod SimpleFacts
+mod StandFacts

@@ -1,0 +1,7 @@
+use Rattle.std.proofs.Common.{◌≡◌, take}
+use Rattle.task_inputs.specs.Entries.{entries_of}
+use Rattle.task_inputs.proofs.entries.InputList.read.Given as goal
+
+-- the globs of the texts so far
+abbrev pub invariant-loop-text : goal.invariant-loop-text
+invariant-loop-text l = l.globs.items ≡ entries_of (take l.text-index l.text-items)

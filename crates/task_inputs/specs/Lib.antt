@@ -1,0 +1,9 @@
+pub mod Homes
+pub mod Lone
+pub mod Entries
+pub mod Inputs
+pub mod Folders
+pub mod Facts
+pub mod Tables
+pub mod Ignores
+pub mod Rooted

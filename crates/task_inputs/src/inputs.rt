@@ -1,0 +1,66 @@
+// The inputs of tasks.
+ghost use Rattle.std.specs.Prelude.{◌≡◌, ◌<◌, length, map, IfOk};
+ghost use Rattle.std.specs.List.{AllByRecursion};
+ghost use Rattle.ignore_rules.specs.Ignored.{is_ignored};
+ghost use Rattle.ignore_rules.specs.Stacks.{rules_in};
+ghost use Rattle.listing.specs.Memory.{OnlyMemory};
+ghost use Rattle.task_inputs.specs.Homes.{LieApart, home_of};
+ghost use Rattle.task_inputs.specs.Inputs.{input_row};
+ghost use Rattle.task_inputs.specs.Tables.{IsLooked, IsRowOf};
+
+use crate::declared::Declared;
+use crate::definitions::DefinedTask;
+use crate::files::global_list;
+use crate::table::{Table, table_of, taken_places};
+use crate::tasks::read_task;
+use ignore_rules::Stack;
+use listing::ListErr;
+use rel_path::{Paths, Places, RelPath};
+use std::alloc::Global;
+use turbo_config::Config;
+use workspaces::Packages;
+
+/// The places in the walk of the files that the task takes.
+fn task_places(
+    alloc: Global,
+    walk: &[RelPath],
+    packages: &Packages,
+    table: &Table,
+    task: &DefinedTask,
+) -> Result<Places, ListErr>
+    requires looked { IsLooked walk.now task.now.«package» table.now }
+    requires task { task.now.«package» < length packages.now.packages }
+    ensures row { IfOk result (IsRowOf packages.now.packages walk.now table.now task.now) }
+    ensures memory { OnlyMemory result }
+{
+    let globs = read_task(alloc, packages, task)?;
+    taken_places(alloc, &globs, walk, table)
+}
+
+/// For each of the tasks the places in the walk of the files that it takes, ascending, with the rules of these ignore
+/// files. `declared` is what `Declared::new` gives of the packages and the configuration. What has to be known of a file
+/// is looked up once, whatever the number of tasks; a task then looks at the files in its package's folder and at those
+/// that `globalDependencies` take, and at all files only where it has a glob that is relative to the root.
+pub fn input_places(
+    alloc: Global,
+    walk: &Paths,
+    ignores: &Stack,
+    packages: &Packages,
+    config: &Config,
+    declared: &Declared,
+    tasks: &[DefinedTask],
+) -> Result<Vec<Places>, ListErr>
+    requires apart { LieApart packages.now.packages }
+    requires declared { declared.now ≡ map (home_of config.now) packages.now.packages }
+    requires tasks { AllByRecursion (λ t. t.«package» < length packages.now.packages) tasks.now }
+    ensures rows { IfOk result (λ rows. rows.items ≡ map (input_row (is_ignored (rules_in ignores.now)) config.now packages.now.packages walk.now) tasks.now) }
+    ensures memory { OnlyMemory result }
+{
+    let globals = global_list(alloc, config)?;
+    let table = table_of(alloc, walk.as_slice(), ignores, declared, &globals)?;
+    let mut rows = Vec::new(alloc);
+    for task in tasks {
+        rows.push(task_places(alloc, walk.as_slice(), packages, &table, task)?)?;
+    }
+    Ok(rows)
+}
