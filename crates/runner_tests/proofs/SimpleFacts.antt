@@ -1,9 +1,9 @@
 -- Simple plans are valid.
-use Rattle.std.proofs.Common.{◌≡◌, ◌≢◌, ℕ, zero, suc, ◌<◌, ◌≤◌, ◌==◌, ◌^◌, slice_index_or, ◌||◌, ◌&&◌, not, Bool, true, false, cond, List, [], ◌∷◌, ◌++◌, length, refl, sym, ap, ◌∙◌, subst, arith, lit<, inl, inr, Option, Some, None}
-use Rattle.std.specs.Prelude.{codes, IsSome, nat_eq}
+use Rattle.std.proofs.Common.{◌≡◌, ◌≢◌, ℕ, zero, suc, ◌<◌, ◌≤◌, ◌^◌, slice_index_or, ◌||◌, not, Bool, true, false, cond, List, [], ◌∷◌, length, refl, sym, ap, ◌∙◌, subst, arith, lit<, inl, inr, Some, None}
+use Rattle.std.specs.Prelude.{codes, IsSome}
 use Rattle.std.specs.List.{AllByRecursion}
 use Rattle.std.proofs.lemmas.Bool.{cases_Bool, false≢true, true≢false, and_parts, or_cases, false_from_ne_true}
-use Rattle.rel_path.specs.Paths.{Path, path_eq, name_eq, strip}
+use Rattle.rel_path.specs.Paths.{Path, path_eq, name_eq}
 use Rattle.rel_path.specs.Files.{file_at}
 use Rattle.rel_path.proofs.PathLaws.{path_same, name_same}
 use Rattle.globs.specs.declared.out_set.OutSet.{OutSet}
@@ -16,7 +16,7 @@ use Rattle.run_laws.specs.Plans.{AreApart, log_path}
 use Rattle.run_laws.specs.Valid.{IsOrdered, IsOrderedPart}
 use Rattle.run_plan.specs.declared.plan.Plan.{Plan}
 use Rattle.run_plan.specs.Plans.{IsValidPlan, no_task}
-use Rattle.runner_tests.specs.Simple.{Shape, input_of, simple_part, simple_parts, simple_files, simple_listing, simple_ids}
+use Rattle.runner_tests.specs.Simple.{Shape, input_of, simple_part, simple_listing, simple_ids}
 
 -- ---- what a task of a folder declares
 

@@ -1,5 +1,5 @@
 -- Plans of three tasks: `build` of the packages a, b and c, each in the folder of its name, with one input file.
-use Rattle.std.specs.Prelude.{ℕ, Bool, List, [], ◌∷◌, Option, codes, if◌then◌else◌}
+use Rattle.std.specs.Prelude.{ℕ, Bool, List, [], ◌∷◌, codes, if◌then◌else◌}
 use Rattle.rel_path.specs.Paths.{Path}
 use Rattle.turbo_config.specs.declared.task_id.TaskId.{TaskId}
 use Rattle.listing.specs.declared.part.Part.{Part}

@@ -1,4 +1,4 @@
-use Rattle.std.proofs.Common.{codes, arith}
+use Rattle.std.proofs.Common.{arith}
 use Rattle.runner_tests.proofs.SimpleFacts.{valid}
 use Rattle.runner_tests.proofs.plans.plan_of.Goals as goal
 
