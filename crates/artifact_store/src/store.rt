@@ -48,9 +48,10 @@ impl<S: StoreDevice> Store<S> {
         }
     }
 
-    /// The device, as the last call left it.
+    /// The device, as the last call left it. While the store may be used, it holds the store's pairs.
     pub fn device(self) -> S
-        ensures { result ≡ device_of self }
+        ensures device { result ≡ device_of self }
+        ensures pairs { S.tells → IsTrue (state_of self).whole → stands_for (S.content result) ≡ Some (state_of self).pairs }
     {
         self.log.device()
     }

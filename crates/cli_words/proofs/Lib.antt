@@ -4,3 +4,4 @@ mod Spellings
 mod ReadOn
 mod Uses
 mod Steps
+mod Bounds

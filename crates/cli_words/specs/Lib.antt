@@ -4,3 +4,4 @@ pub mod Orders
 pub mod Answers
 pub mod Table
 pub mod Reading
+pub mod Laws

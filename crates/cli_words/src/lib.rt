@@ -5,10 +5,12 @@
 #![tactic(auto)]
 
 mod error;
+mod laws;
 mod options;
 mod order;
 mod reader;
 mod values;
 
 pub use error::WordsErr;
+pub use laws::width_law;
 pub use order::{EnvWord, KeepOn, LogWord, Order, RunOrder};

@@ -8,3 +8,6 @@ mod Jobs
 mod Asked
 mod IgnoreRules
 mod Whole
+mod Found
+mod Order
+mod Apart

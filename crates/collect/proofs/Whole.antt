@@ -34,13 +34,14 @@ use Rattle.std.proofs.lemmas.List.{length-map}
 use Rattle.std.proofs.lemmas.Option.{slice_get_within}
 use Rattle.collect.specs.Listings.{ArePaired, with_bytes, is_needed, takes_in, takes_by, needed, IsListing}
 use Rattle.collect.specs.Refusals.{FindsAll, IsMissingOf, IsFirstMissing, is_large, first_large, large_file, total_bytes, Fits, Collects, sum_limit}
-use Rattle.collect.specs.Steps.{IsTaskOf, UsesAt, FindsAt, MissesFirst, known, known_if, large_at, is_large_at, in_row, marked_files, GathersAll, Gathers, ReadsAll, Plans, inputs_at, out_set_by, IsMade, IsMadeOf, AreMade, jobs, IsPlan, AreRows, rules_file}
+use Rattle.collect.specs.Steps.{IsTaskOf, UsesAt, FindsAt, MissesFirst, known, known_if, large_at, is_large_at, in_row, marked_files, GathersAll, Gathers, ReadsAll, Plans, inputs_at, out_set_by, IsMade, IsMadeOf, AreMade, jobs, IsPlan, AreRows, rules_file, ReadsSome, GathersSome, never}
 use Rattle.collect.proofs.Lists.{paired_at, paired_back, paired_from, paired_length, paired_before, paired_all, all_map, list_at, got}
 use Rattle.collect.proofs.Readings.{last_name}
 use Rattle.collect.proofs.Spots.{in_places, inputs_are, row_below}
 use Rattle.collect.proofs.Jobs.{jobs_same}
 use Rattle.collect.proofs.Asked.{file_known, among_filter, marks_are, same_files, same_found, same_large, filter_same, find_append, find_first, none_found, among_get}
 use Rattle.collect.proofs.IgnoreRules.{rules_read}
+use Rattle.collect.proofs.Found.{joined, joined_rules, joined_known}
 
 some_same : {X : Type 0} (x y : X) → Some x ≡ Some y → x ≡ y
 some_same x y e = cc
@@ -77,7 +78,7 @@ all_filter P test (w ∷ walk) all = by (test w) (all_filter P test walk all.1) 
   by true more = (all.0, more)
   by false more = more
 
-sorted_filter : (test : Path → Bool) (walk : List Path) → IsStrictlySortedBy path_cmp walk → IsStrictlySortedBy path_cmp (filter test walk)
+pub sorted_filter : (test : Path → Bool) (walk : List Path) → IsStrictlySortedBy path_cmp walk → IsStrictlySortedBy path_cmp (filter test walk)
 unfolding IsStrictlySortedBy
 sorted_filter test [] sorted = tt
 sorted_filter test (w ∷ walk) sorted = by (test w) (sorted_filter test walk sorted.1) where
@@ -85,11 +86,11 @@ sorted_filter test (w ∷ walk) sorted = by (test w) (sorted_filter test walk so
   by true more = (all_filter (λ p. path_cmp w p ≡ Less) test walk sorted.0, more)
   by false more = more
 
-and_left : (a b : Bool) → (a && b) ≡ true → a ≡ true
+pub and_left : (a b : Bool) → (a && b) ≡ true → a ≡ true
 and_left true b e = refl
 and_left false b e = e
 
-and_right : (a b : Bool) → (a && b) ≡ true → b ≡ true
+pub and_right : (a b : Bool) → (a && b) ≡ true → b ≡ true
 and_right true b e = e
 and_right false b e = absurd (false≢true e)
 
@@ -230,7 +231,7 @@ module _ (setup : Setup) (space : Space) (lock : Option Data) (files : FileMap) 
   unfolding needed ask left
   needed_paths = filter_same (is_needed setup space files walk wanted) (λ q. has files q && ask q) walk (list_at (λ q. is_needed setup space files walk wanted q ≡ (has files q && ask q)) walk (λ i q at. needed_is setup space files walk wanted plan.tasks.items q p.tasks))
 
-  module _ (ignores : List (Path × List ℕ)) (ign : ignores ≡ with_bytes files plan.rules) (none : first_large files plan.rules ≡ None) (rows : Rows) (rs : AreRows setup space.packages walk (is_ignored (rules_at (map rules_file ignores))) plan.tasks.items rows) where
+  module _ (ignores : List (Path × List ℕ)) (ign : ignores ≡ with_bytes files plan.rules) (rows : Rows) (rs : AreRows setup space.packages walk (is_ignored (rules_at (map rules_file ignores))) plan.tasks.items rows) where
     rows_are : rows.rows.items ≡ map (input_row left setup space.packages walk) plan.tasks.items
     unfolding left
     rows_are = rs.rows ∙ ap (λ ignored. map (input_row ignored setup space.packages walk) plan.tasks.items) (ap (λ fs. is_ignored (rules_at (map rules_file fs))) (ign ∙ ap (with_bytes files) p.rules) ∙ left_out_is setup space files walk sorted)
@@ -249,27 +250,28 @@ module _ (setup : Setup) (space : Space) (lock : Option Data) (files : FileMap) 
       by q true f among e = ap (λ fs. file_at fs q) (ign ∙ ap (with_bytes files) p.rules) ∙ file_known files (rule_files setup space.packages walk) q ∙ ap (λ b. cond b (files q) None) (among_rules q among e f)
       by q false f among e = refl
 
-    large_is : AllByRecursion (λ q. ask q ≡ true → large_at files q ≡ is_large (files q)) walk
-    large_is = list_at (λ q. ask q ≡ true → large_at files q ≡ is_large (files q)) walk (λ i q at e. by q (is_ignore_file q) refl (among_get walk i q at) e) where
-      by : (q : Path) (b : Bool) → is_ignore_file q ≡ b → is_among walk q ≡ true → ask q ≡ true → cond b false (is_large (files q)) ≡ is_large (files q)
-      by q true f among e = sym (none_found (λ x. is_large (files x)) (rule_files setup space.packages walk) q (ap (first_large files) (sym p.rules) ∙ none) (among_rules q among e f))
-      by q false f among e = refl
+    module _ (none : first_large files plan.rules ≡ None) where
+      large_is : AllByRecursion (λ q. ask q ≡ true → large_at files q ≡ is_large (files q)) walk
+      large_is = list_at (λ q. ask q ≡ true → large_at files q ≡ is_large (files q)) walk (λ i q at e. by q (is_ignore_file q) refl (among_get walk i q at) e) where
+        by : (q : Path) (b : Bool) → is_ignore_file q ≡ b → is_among walk q ≡ true → ask q ≡ true → cond b false (is_large (files q)) ≡ is_large (files q)
+        by q true f among e = sym (none_found (λ x. is_large (files x)) (rule_files setup space.packages walk) q (ap (first_large files) (sym p.rules) ∙ none) (among_rules q among e f))
+        by q false f among e = refl
 
-    large_found : (o : Option Path) → option_map (λ (m : Bool × Path). m.1) (find (is_large_at files) (zip rows.marks.items walk)) ≡ o → large_file setup space files walk wanted ≡ o
-    unfolding large_file
-    large_found o e =
-        find_append (λ q. is_large (files q)) (rule_files setup space.packages walk) (needed setup space files walk wanted) (ap (first_large files) (sym p.rules) ∙ none)
-        ∙ ap (first_large files) needed_paths ∙ sym (same_large files (known ignores files) ask walk large_is) ∙ ap (λ ms. option_map (λ (m : Bool × Path). m.1) (find (is_large_at files) (zip ms walk))) (sym marks_is) ∙ e
+      large_found : (o : Option Path) → option_map (λ (m : Bool × Path). m.1) (find (is_large_at files) (zip rows.marks.items walk)) ≡ o → large_file setup space files walk wanted ≡ o
+      unfolding large_file
+      large_found o e =
+          find_append (λ q. is_large (files q)) (rule_files setup space.packages walk) (needed setup space files walk wanted) (ap (first_large files) (sym p.rules) ∙ none)
+          ∙ ap (first_large files) needed_paths ∙ sym (same_large files (known ignores files) ask walk large_is) ∙ ap (λ ms. option_map (λ (m : Bool × Path). m.1) (find (is_large_at files) (zip ms walk))) (sym marks_is) ∙ e
 
-    pub inputs_large : (path : Path) → option_map (λ (m : Bool × Path). m.1) (find (is_large_at files) (zip rows.marks.items walk)) ≡ Some path → large_file setup space files walk wanted ≡ Some path
-    inputs_large path e = large_found (Some path) e
+      pub inputs_large : (path : Path) → option_map (λ (m : Bool × Path). m.1) (find (is_large_at files) (zip rows.marks.items walk)) ≡ Some path → large_file setup space files walk wanted ≡ Some path
+      inputs_large path e = large_found (Some path) e
 
-    module _ (g : Gathered) (gs : GathersAll (known ignores files) (is_large_at files) (zip rows.marks.items walk) g) where
+    pub fits : (none : first_large files plan.rules ≡ None) (g : Gathered) (gs : GathersAll (known ignores files) (is_large_at files) (zip rows.marks.items walk) g) → Fits setup space lock files walk wanted
+    fits none g gs = record { found = finds; small = large_found none None (ap (option_map (λ (m : Bool × Path). m.1)) gs.small) }
+
+    module _ (large : Bool × Path → Bool) (g : Gathered) (gs : GathersAll (known ignores files) large (zip rows.marks.items walk) g) where
       files_same : marked_files (known ignores files) (zip rows.marks.items walk) ≡ with_bytes files (needed setup space files walk wanted)
       files_same = ap (λ ms. marked_files (known ignores files) (zip ms walk)) marks_is ∙ same_files files (known ignores files) ask walk known_is ∙ ap (with_bytes files) (sym needed_paths)
-
-      pub fits : Fits setup space lock files walk wanted
-      fits = record { found = finds; small = large_found None (ap (option_map (λ (m : Bool × Path). m.1)) gs.small) }
 
       pub total_is : total_bytes setup space files walk wanted ≡ g.total
       unfolding total_bytes
@@ -384,6 +386,31 @@ module _ (setup : Setup) (space : Space) (lock : Option Data) (walk : List Path)
     rows_below ignored rows rs other e items f =
         subst (λ o. AllByRecursion (AllByRecursion (λ k. k < length o)) items) (sym e) (subst (AllByRecursion (AllByRecursion (λ k. k < length walk))) (sym (f ∙ rs.rows)) (all_map (AllByRecursion (λ k. k < length walk)) (input_row ignored setup space.packages walk) plan.tasks.items (row_below ignored setup space.packages walk)))
 
+    rules_ignore : AllByRecursion (λ q. is_ignore_file q ≡ true) plan.rules
+    unfolding rule_files
+    rules_ignore = subst (AllByRecursion (λ q. is_ignore_file q ≡ true)) (sym p.rules)
+        (weaker (λ q. is_rule_file setup space.packages q ≡ true) (λ q. is_ignore_file q ≡ true) (filter (is_rule_file setup space.packages) walk) (λ q e. and_left (is_ignore_file q) (not (is_declared setup space.packages q)) e) (among_all (is_rule_file setup space.packages) walk))
+
+    pub rules_sorted : (rules : List Path) → rules ≡ plan.rules → IsStrictlySortedBy path_cmp walk → IsStrictlySortedBy path_cmp rules
+    unfolding rule_files
+    rules_sorted rules is sorted = subst (IsStrictlySortedBy path_cmp) (sym (is ∙ p.rules)) (sorted_filter (is_rule_file setup space.packages) walk sorted)
+
+    -- whatever the tree tells, what was read and gathered makes a listing of some files
+    module _ (sorted : IsStrictlySortedBy path_cmp walk) (ignores : List (Path × List ℕ)) (rules : List Path) (is : rules ≡ plan.rules) (read : ReadsSome rules ignores) (rows : Rows) (rs : AreRows setup space.packages walk (is_ignored (rules_at (map rules_file ignores))) plan.tasks.items rows) (marks : List Bool) (ms : marks ≡ rows.marks.items) (other : List Path) (os : other ≡ walk) (g : Gathered) (got : GathersSome ignores (zip marks other) g) where
+      some_files : FileMap
+      some_files = joined read.0 got.0
+
+      some_rules : ignores ≡ with_bytes some_files plan.rules
+      unfolding some_files
+      some_rules = read.1 ∙ ap (with_bytes read.0) is ∙ sym (joined_rules read.0 got.0 plan.rules rules_ignore)
+
+      some_got : GathersAll (known ignores some_files) never (zip rows.marks.items walk) g
+      unfolding some_files
+      some_got = subst (λ K. GathersAll K never (zip rows.marks.items walk) g) (sym (joined_known ignores read.0 got.0)) (subst (λ (x : List Bool × List Path). GathersAll (known ignores got.0) never (zip x.0 x.1) g) (ap (λ a. (a, other)) ms ∙ ap (λ b. (rows.marks.items, b)) os) got.1)
+
+      pub some_listing : (parts : List Part) → AreMade (IsMade space.packages plan.declared setup.globals.env env walk g.found.items) wanted plan.tasks.items rows.rows.items plan.uses.items parts → g.total ≤ sum_limit → (files : FileMap) × IsListing setup space lock files walk env wanted (record { parts = parts; files = g.files })
+      some_listing parts made less = (some_files, listed setup space lock some_files walk env wanted sorted plan p ignores some_rules rows rs never g some_got parts made g.files refl less)
+
     module _ (files : FileMap) (sorted : IsStrictlySortedBy path_cmp walk) where
       pub stop_rules : (rules : List Path) (e : CollectErr) → rules ≡ plan.rules → ReadsAll files rules (Err e) → Collects setup space lock files walk env wanted (Err e)
       stop_rules rules (Missing from name) is r = absurd r
@@ -403,7 +430,7 @@ module _ (setup : Setup) (space : Space) (lock : Option Data) (walk : List Path)
         stop_gather (Missing from name) r = absurd r
         stop_gather (TooLarge path) r = (
           finds setup space lock files walk env wanted sorted plan p,
-          inputs_large setup space lock files walk env wanted sorted plan p ignores ign none rows rs path
+          inputs_large setup space lock files walk env wanted sorted plan p ignores ign rows rs none path
               (subst (λ (x : List Bool × List Path). option_map (λ (m : Bool × Path). m.1) (find (is_large_at files) (zip x.0 x.1)) ≡ Some path) (ap (λ a. (a, other)) ms ∙ ap (λ b. (rows.marks.items, b)) os)
               (subst (λ f. option_map (λ (m : Bool × Path). m.1) (find (is_large_at f) (zip marks other)) ≡ Some path) same r)),
         )
@@ -416,12 +443,12 @@ module _ (setup : Setup) (space : Space) (lock : Option Data) (walk : List Path)
           all_got = subst (λ (x : List Bool × List Path). GathersAll (known ignores files) (is_large_at files) (zip x.0 x.1) g) (ap (λ a. (a, other)) ms ∙ ap (λ b. (rows.marks.items, b)) os) (subst (λ f. GathersAll (known ignores f) (is_large_at f) (zip marks other) g) same got)
 
           pub stop_total : sum_limit < g.total → Collects setup space lock files walk env wanted (Err (TooMuch g.total))
-          stop_total more = (fits setup space lock files walk env wanted sorted plan p ignores ign none rows rs g all_got, (total_is setup space lock files walk env wanted sorted plan p ignores ign none rows rs g all_got, more))
+          stop_total more = (fits setup space lock files walk env wanted sorted plan p ignores ign rows rs none g all_got, (total_is setup space lock files walk env wanted sorted plan p ignores ign rows rs (is_large_at files) g all_got, more))
 
           pub collected : (parts : List Part) → AreMade (IsMade space.packages plan.declared setup.globals.env env walk g.found.items) wanted plan.tasks.items rows.rows.items plan.uses.items parts → g.total ≤ sum_limit → Collects setup space lock files walk env wanted (Ok (record { parts = parts; files = g.files }))
           collected parts made less = (
-            listed setup space lock files walk env wanted sorted plan p ignores ign none rows rs g all_got parts made g.files refl less,
-            (fits setup space lock files walk env wanted sorted plan p ignores ign none rows rs g all_got, subst (λ n. n ≤ sum_limit) (sym (total_is setup space lock files walk env wanted sorted plan p ignores ign none rows rs g all_got)) less),
+            listed setup space lock files walk env wanted sorted plan p ignores ign rows rs (is_large_at files) g all_got parts made g.files refl less,
+            (fits setup space lock files walk env wanted sorted plan p ignores ign rows rs none g all_got, subst (λ n. n ≤ sum_limit) (sym (total_is setup space lock files walk env wanted sorted plan p ignores ign rows rs (is_large_at files) g all_got)) less),
           )
 
 pub made_as : (packages : List Package) (homes : List Home) (globals globals' : List (List ℕ)) (env : List (List ℕ × List ℕ)) (walk walk' : List Path) (found found' : List Bool) (wanted : List Wanted) (tasks tasks' : List DefinedTask) (rows rows' : List (List ℕ)) (uses uses' : List (List (List ℕ × List ℕ))) (parts : List Part) → globals' ≡ globals → walk' ≡ walk → found' ≡ found → tasks' ≡ tasks → rows' ≡ rows → uses' ≡ uses

@@ -4,3 +4,4 @@ pub mod Listings
 pub mod Refusals
 pub mod Cause
 pub mod Steps
+pub mod Laws

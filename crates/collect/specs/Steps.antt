@@ -158,6 +158,23 @@ Gathers files large ms (Err (TooMuch total)) = ⊥
 Gathers files large ms (Err Failed) = Unit {0}
 Gathers files large ms (Err OutOfMemory) = Unit {0}
 
+-- ---- whatever the tree tells
+
+-- these are files of those paths
+abbrev pub ReadsSome : List Path → List (Path × List ℕ) → Type 0
+ReadsSome paths got = (files : FileMap) × (got ≡ with_bytes files paths)
+
+-- what was found at a path with its mark: what is known of an ignore file, or else some bytes or none
+abbrev pub KnowsSome : List (Path × List ℕ) → Bool × Path → Option (List ℕ) → Type 0
+KnowsSome ignores m now = (bytes : Option (List ℕ)) × (now ≡ known_if (known ignores (λ path. bytes)) m)
+
+abbrev pub never : Bool × Path → Bool
+never m = false
+
+-- gathered of some files, and of the ignore files that are known
+abbrev pub GathersSome : List (Path × List ℕ) → List (Bool × Path) → Gathered → Type 0
+GathersSome ignores ms g = (files : FileMap) × GathersAll (known ignores files) never ms g
+
 -- ---- rules
 
 abbrev pub folder_of : Path → Path

@@ -1,19 +1,27 @@
 // The listing of wanted tasks.
-ghost use Rattle.std.specs.Prelude.{◌≡◌, ◌<◌, true, false, length, map, IfOk};
+ghost use Rattle.std.specs.Prelude.{◌≡◌, ◌≢◌, ◌<◌, ℕ, true, false, [], length, map, slice_index_or, AllPairs, IfOk};
 ghost use Rattle.std.specs.Option.{option_map};
 ghost use Rattle.std.specs.List.{AllByRecursion};
 ghost use Rattle.std.specs.List.Sorted.{IsStrictlySortedBy};
 ghost use Rattle.serde_json.specs.View.{view};
 ghost use Rattle.rel_path.specs.Paths.{Path, is_among, path_cmp};
+ghost use Rattle.rel_path.specs.Files.{FileMap, file_at};
 ghost use Rattle.tree_dev.specs.Tree.{Looks};
+ghost use Rattle.tree_walk.specs.Walked.{is_open};
+ghost use Rattle.spawn_dev.specs.Orders.{IsAscending};
+ghost use Rattle.run_laws.specs.Closures.{names};
+ghost use Rattle.run_laws.specs.Valid.{IsOrdered};
+ghost use Rattle.run_laws.specs.Plans.{AreApart};
 ghost use Rattle.ignore_rules.specs.Ignored.{is_ignored};
 ghost use Rattle.ignore_rules.specs.Stacks.{rules_at};
 ghost use Rattle.task_inputs.specs.Homes.{LieApart, home_of};
 ghost use Rattle.collect.specs.Tasks.{IsDefined};
+ghost use Rattle.collect.specs.Listings.{IsListing};
 ghost use Rattle.collect.specs.Refusals.{Collects};
 ghost use Rattle.collect.specs.Cause.{HasCause};
 ghost use Rattle.collect.specs.Steps.{OnlyMemory, Plans, AreRows, rules_file};
 
+use crate::laws::listing_law;
 use crate::marks::marks_of;
 use crate::parts::all_parts;
 use crate::reading::{SUM_LIMIT, gather, read_all, rule_paths};
@@ -115,6 +123,9 @@ fn rows_of(
 /// lockfile does not have, for the first such task; `TooLarge` at the first ignore file that counts, and else the first
 /// input, of more than 16 MiB; `TooMuch` where the inputs have more than 64 MiB together. Each file is read once, none
 /// where a name is missing. Without a lockfile no package uses installed ones.
+///
+/// `tree_walk::walk`, `Packages` and `task_graph` give what is required. Whatever the tree tells, the listing is that of
+/// some files, it stands in order, and its tasks keep out of each other's way.
 pub fn collect<T: Tree>(
     alloc: Global,
     tree: &mut T,
@@ -127,12 +138,21 @@ pub fn collect<T: Tree>(
 ) -> Result<Listing, CollectErr>
     requires free { (path : Path) → is_among walk.now path ≡ true → (T.state tree.old).held path ≡ false }
     requires ascend { IsStrictlySortedBy path_cmp walk.now }
+    requires outside { (path : Path) → is_among walk.now path ≡ true → is_open path ≡ true }
     requires apart { LieApart packages.now.packages }
     requires tasks { AllByRecursion (λ w. IsDefined config.now packages.now.packages w.id) wanted.now }
+    requires ids { AllPairs (λ v w. v.id ≢ w.id) wanted.now }
+    requires lower { (place : ℕ) → AllByRecursion (λ d. d < place) (slice_index_or (map (λ w. w.deps) wanted.now) place []) }
+    requires deps { AllByRecursion (λ w. IsAscending (λ a b. a < b) w.deps) wanted.now }
     ensures looks { Looks (T.state tree.old) (T.state tree.new) }
+    ensures listed { IfOk result (λ l. (files : FileMap) × IsListing config.now packages.now (option_map (λ l. view l.now) lock.entry) files walk.now env.now wanted.now l) }
+    ensures ordered { IfOk result IsOrdered }
+    ensures apart { IfOk result AreApart }
     ensures collects { T.tells → Collects config.now packages.now (option_map (λ l. view l.now) lock.entry) (T.state tree.old).files walk.now env.now wanted.now result }
+    ensures inputs { T.tells → IfOk result (λ l. (path : Path) → names l.parts path ≡ true → (T.state tree.old).files path ≡ file_at l.files path) }
     ensures cause { HasCause (T.state tree.old).faults (T.state tree.new).faults result }
 {
+    listing_law();
     let plan = match plan_of(alloc, walk, packages, config, lock, wanted) {
         Ok(plan) => plan,
         Err(e) => return Err(e),

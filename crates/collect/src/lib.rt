@@ -7,6 +7,7 @@
 
 mod collecting;
 mod error;
+mod laws;
 mod marks;
 mod parts;
 mod reading;
@@ -18,4 +19,5 @@ mod wanted;
 
 pub use collecting::collect;
 pub use error::CollectErr;
+pub use laws::listing_law;
 pub use wanted::Wanted;

@@ -7,7 +7,7 @@ ghost use Rattle.task_inputs.specs.Homes.{declared_in};
 ghost use Rattle.task_inputs.specs.Ignores.{is_ignore_file};
 ghost use Rattle.collect.specs.Cause.{HasCause};
 ghost use Rattle.collect.specs.Refusals.{is_large};
-ghost use Rattle.collect.specs.Steps.{OnlyMemory, IsTooLarge, ReadsOne, ReadsAll, known, known_if, large_at, known_at, is_large_at, Adds, Gathers};
+ghost use Rattle.collect.specs.Steps.{OnlyMemory, IsTooLarge, ReadsOne, ReadsAll, known, known_if, large_at, known_at, is_large_at, Adds, Gathers, ReadsSome, KnowsSome, GathersSome};
 
 use crate::CollectErr;
 use rel_path::{Bytes, Files, Paths, RelPath};
@@ -96,7 +96,9 @@ pub(crate) fn read_all<T: Tree>(
     paths: &[RelPath],
 ) -> Result<Files, CollectErr>
     requires free { (path : Path) → is_among paths.now path ≡ true → (T.state tree.old).held path ≡ false }
+    requires ascend { IsStrictlySortedBy path_cmp paths.now }
     ensures looks { Looks (T.state tree.old) (T.state tree.new) }
+    ensures some { IfOk result (ReadsSome paths.now) }
     ensures reads { T.tells → ReadsAll (T.state tree.old).files paths.now result }
     ensures cause { HasCause (T.state tree.old).faults (T.state tree.new).faults result }
 {
@@ -123,6 +125,7 @@ fn look_up<T: Tree>(
 ) -> Result<Option<Bytes>, CollectErr>
     requires free { (T.state tree.old).held path.now ≡ false }
     ensures looks { Looks (T.state tree.old) (T.state tree.new) }
+    ensures some { IfOk result (KnowsSome ignores.now (true, path.now)) }
     ensures reads { T.tells → ReadsOne (known ignores.now (T.state tree.old).files path.now) (large_at (T.state tree.old).files path.now) path.now result }
     ensures cause { HasCause (T.state tree.old).faults (T.state tree.new).faults result }
 {
@@ -174,6 +177,7 @@ fn look_marked<T: Tree>(
 ) -> Result<Option<Bytes>, CollectErr>
     requires free { (T.state tree.old).held path.now ≡ false }
     ensures looks { Looks (T.state tree.old) (T.state tree.new) }
+    ensures some { IfOk result (KnowsSome ignores.now (marked, path.now)) }
     ensures reads { T.tells → ReadsOne (known_if (known ignores.now (T.state tree.old).files) (marked, path.now)) (is_large_at (T.state tree.old).files (marked, path.now)) path.now result }
     ensures cause { HasCause (T.state tree.old).faults (T.state tree.new).faults result }
 {
@@ -194,7 +198,9 @@ pub(crate) fn gather<T: Tree>(
 ) -> Result<Gathered, CollectErr>
     requires same { length marks.now ≡ length walk.now }
     requires free { (path : Path) → is_among walk.now path ≡ true → (T.state tree.old).held path ≡ false }
+    requires ascend { IsStrictlySortedBy path_cmp walk.now }
     ensures looks { Looks (T.state tree.old) (T.state tree.new) }
+    ensures some { IfOk result (GathersSome ignores.now (zip marks.now walk.now)) }
     ensures same { IfOk result (λ g. length g.found.items ≡ length walk.now) }
     ensures reads { T.tells → Gathers (known ignores.now (T.state tree.old).files) (is_large_at (T.state tree.old).files) (zip marks.now walk.now) result }
     ensures cause { HasCause (T.state tree.old).faults (T.state tree.new).faults result }

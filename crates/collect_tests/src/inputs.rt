@@ -1,5 +1,5 @@
 // Which files are inputs.
-use crate::space::{Case, told};
+use crate::space::{Case, far, told};
 use std::test::Fail;
 
 fn case(turbo: &str) -> Case<'_> {
@@ -97,5 +97,42 @@ fn declared(rt: HostRuntime) -> Result<(), Fail> {
     let wanted =
         "a: x; env; in p/a/package.json p/a/x p/b/dist/x; ext\nfiles p/a/package.json p/a/x p/b/dist/x";
     assert!(rt; told(alloc, case(turbo), &files, &[])?.as_str() == wanted);
+    Ok(())
+}
+
+// What comes through globs of the root and `globalDependencies`, without an own glob or the default set, and without
+// what a task declares and the manifests.
+#[test]
+fn rooted(rt: HostRuntime) -> Result<(), Fail> {
+    let alloc = rt.alloc();
+    let files = [
+        ("p/a/package.json", A),
+        ("p/a/x", ""),
+        ("p/b/package.json", r#"{"name":"b"}"#),
+        ("g", ""),
+        ("z/1", ""),
+        ("z/q.log", ""),
+    ];
+    for (turbo, wanted) in [
+        (r#"{"tasks":{"build":{"inputs":["x"]}}}"#, "far"),
+        (
+            r#"{"globalDependencies":["g"],"tasks":{"build":{}}}"#,
+            "far g",
+        ),
+        (
+            r#"{"tasks":{"build":{"inputs":["$TURBO_ROOT$/z/*","!$TURBO_ROOT$/**/*.log"]}}}"#,
+            "far z/1",
+        ),
+        (
+            r#"{"tasks":{"build":{"inputs":["$TURBO_ROOT$/p/**"],"outputs":["y"]}}}"#,
+            "far p/a/x",
+        ),
+        (
+            r#"{"tasks":{"build":{"inputs":["$TURBO_ROOT$/p/**"],"outputs":["x"]}}}"#,
+            "far",
+        ),
+    ] {
+        assert!(rt; far(alloc, case(turbo), &files)?.as_str() == wanted);
+    }
     Ok(())
 }

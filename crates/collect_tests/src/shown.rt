@@ -24,7 +24,7 @@ fn push_pairs(to: &mut String, word: &str, pairs: &[(Text, Text)]) -> Result<(),
     Ok(())
 }
 
-fn push_paths(
+pub fn push_paths(
     to: &mut String,
     alloc: Global,
     word: &str,

@@ -1,16 +1,19 @@
 // Monorepos in memory, and their listings.
-ghost use Rattle.std.specs.Prelude.{◌≡◌, false};
+ghost use Rattle.std.specs.Prelude.{◌≡◌, true, false, length, IfOk};
 ghost use Rattle.std.specs.List.Sorted.{IsStrictlySortedBy};
-ghost use Rattle.rel_path.specs.Paths.{Path, path_cmp};
+ghost use Rattle.rel_path.specs.Paths.{Path, path_cmp, is_among};
+ghost use Rattle.tree_walk.specs.Walked.{is_open};
+ghost use Rattle.workspaces.specs.Reach.{AreBelow};
 
-use crate::shown::{refusal_of, shown};
+use crate::shown::{push_paths, refusal_of, shown};
 use crate::wishes::wishes;
 use collect::{CollectErr, collect};
 use listing::Listing;
 use manifest::Manifest;
 use npm_lock::Lock;
-use rel_path::{Bytes, Files, Paths, RelPath, Text, Texts};
+use rel_path::{Bytes, Files, Paths, Places, RelPath, Text, Texts};
 use std::alloc::Global;
+use task_inputs::rooted;
 use tree_dev::{MemTree, Tree};
 use tree_walk::walk;
 use turbo_config::{Config, RootConfig};
@@ -107,6 +110,7 @@ fn collected(
 ) -> Result<Listing, CollectErr>
     requires free { (path : Path) → (⟦<MemTree as Tree>⟧.state tree.old).held path ≡ false }
     requires ascend { IsStrictlySortedBy path_cmp paths.now }
+    requires outside { (path : Path) → is_among paths.now path ≡ true → is_open path ≡ true }
 {
     let config = config_of(alloc, packages, case.turbo)?;
     let lock = lock_of(alloc, case.lock)?;
@@ -137,4 +141,46 @@ pub fn told(
         Ok(listing) => shown(alloc, &listing),
         Err(error) => refusal_of(alloc, &error),
     }
+}
+
+fn first_of(alloc: Global, packages: &Packages) -> Result<Places, CollectErr>
+    ensures { IfOk result (AreBelow (length packages.now.packages)) }
+{
+    let mut kept = Places::new(alloc);
+    if packages.count() == 0 {
+        return Ok(kept);
+    }
+    kept.push(0)?;
+    Ok(kept)
+}
+
+fn far_files(
+    alloc: Global,
+    case: Case,
+    paths: &Paths,
+    packages: &Packages,
+) -> Result<String, CollectErr> {
+    let config = config_of(alloc, packages, case.turbo)?;
+    let kept = first_of(alloc, packages)?;
+    let _count = packages.count();
+    let found = rooted(alloc, paths, packages, &config, &kept)?;
+    let mut text = String::new(alloc);
+    push_paths(&mut text, alloc, "far", found.as_slice())?;
+    Ok(text)
+}
+
+/// The files that the tasks of the first package get from anywhere, as a text.
+pub fn far(alloc: Global, case: Case, files: &[(&str, &str)]) -> Result<String, CollectErr> {
+    let Ok(root) = Manifest::read(alloc, case.root.as_bytes(), true) else {
+        return Err(CollectErr::OutOfMemory);
+    };
+    let files = files_of(alloc, files, &[])?;
+    let mut tree = MemTree::new(alloc, files, Vec::new(alloc));
+    let Ok(paths) = walk(alloc, &mut tree) else {
+        return Err(CollectErr::Failed);
+    };
+    let Ok(packages) = discover(alloc, &mut tree, root, &paths) else {
+        return Err(CollectErr::Failed);
+    };
+    far_files(alloc, case, &paths, &packages)
 }

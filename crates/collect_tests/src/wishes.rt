@@ -1,5 +1,5 @@
 // Wanted tasks that have a definition.
-ghost use Rattle.std.specs.Prelude.{◌≡◌, true, IfOk};
+ghost use Rattle.std.specs.Prelude.{◌≡◌, ◌≢◌, true, [], AllPairs, IfOk};
 ghost use Rattle.std.specs.List.{AllByRecursion};
 ghost use Rattle.collect.specs.Tasks.{IsDefined};
 
@@ -33,7 +33,8 @@ fn wish(
     package: &str,
     task: &str,
 ) -> Result<Wanted, CollectErr>
-    ensures { IfOk result (λ w. IsDefined config.now packages.now.packages w.id) }
+    ensures defined { IfOk result (λ w. IsDefined config.now packages.now.packages w.id) }
+    ensures alone { IfOk result (λ w. w.deps ≡ []) }
 {
     let package = Text::read(alloc, package)?;
     let task = Text::read(alloc, task)?;
@@ -48,18 +49,36 @@ fn wish(
     })
 }
 
-/// Each of these tasks is wanted.
+/// Whether none of these is the task.
+fn is_new(all: &[Wanted], id: &TaskId) -> bool
+    ensures { result ≡ true → AllByRecursion (λ w. w.id ≢ id.now) all.now }
+{
+    for wanted in all {
+        if wanted.id.package == id.package && wanted.id.task == id.task {
+            return false;
+        }
+    }
+    true
+}
+
+/// Each of these tasks is wanted, and depends on none. None may stand twice.
 pub fn wishes(
     alloc: Global,
     packages: &Packages,
     config: &Config,
     tasks: &[(&str, &str)],
 ) -> Result<Vec<Wanted>, CollectErr>
-    ensures { IfOk result (λ all. AllByRecursion (λ w. IsDefined config.now packages.now.packages w.id) all.items) }
+    ensures defined { IfOk result (λ all. AllByRecursion (λ w. IsDefined config.now packages.now.packages w.id) all.items) }
+    ensures alone { IfOk result (λ all. AllByRecursion (λ w. w.deps ≡ []) all.items) }
+    ensures ids { IfOk result (λ all. AllPairs (λ v w. v.id ≢ w.id) all.items) }
 {
     let mut all = Vec::new(alloc);
     for (package, task) in tasks {
-        all.push(wish(alloc, packages, config, package, task)?)?;
+        let wanted = wish(alloc, packages, config, package, task)?;
+        if !is_new(&all, &wanted.id) {
+            return Err(CollectErr::OutOfMemory);
+        }
+        all.push(wanted)?;
     }
     Ok(all)
 }

@@ -3,7 +3,7 @@ use Rattle.std.specs.Prelude.{ℕ, List, ◌++◌, codes, decimal}
 use Rattle.page.specs.Tasks.{path_text, task_name, joined}
 use Rattle.page.specs.Faults.{words_fault, manifest_fault, lock_fault, glob_fault, config_fault}
 use Rattle.page.specs.declared.refusal.Refusal.{Refusal}
-use Rattle.page.specs.declared.refusal.Refusal.TheVariants.{Words, NoManifest, Manifest, Lock, TooDeep, TooMany, Inside, NameTwice, Config, Glob, Filter, NoPackage, NoSuchTask, NoSuchDependency, Cycle, Persistent, LockMissing, TooLarge, TooMuch, NotAStore, Damaged, OutTaken}
+use Rattle.page.specs.declared.refusal.Refusal.TheVariants.{Words, NoManifest, Manifest, Lock, TooDeep, TooMany, Inside, NameTwice, Config, Glob, Filter, NoPackage, NoSuchTask, NoSuchDependency, Cycle, Persistent, LockMissing, TooLarge, TooMuch, NotAStore, Damaged, OutTaken, NotBuilt}
 use Rattle.page.specs.declared.refusal.DeviceFault.{DeviceFault}
 use Rattle.page.specs.declared.refusal.DeviceFault.TheVariants as device
 
@@ -30,6 +30,7 @@ refusal_text (TooMuch bytes) = codes "inputs too large: " ++ decimal bytes
 refusal_text NotAStore = codes "the store file is no store"
 refusal_text (Damaged at) = codes "the store is damaged at " ++ decimal at
 refusal_text (OutTaken path) = codes "already there: " ++ path_text path
+refusal_text (NotBuilt form) = codes "not built: form " ++ decimal form
 
 abbrev pub line_of : List ℕ → List ℕ
 line_of text = codes "turbo: " ++ (text ++ codes "\n")

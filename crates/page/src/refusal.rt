@@ -99,6 +99,10 @@ pub enum Refusal {
     OutTaken {
         path: RelPath,
     },
+    /// The words ask for what is not built yet; each such form has a number.
+    NotBuilt {
+        form: u8,
+    },
 }
 
 /// The device that failed.

@@ -163,6 +163,7 @@ fn refusal_text(alloc: Global, refusal: &Refusal) -> Result<String, PageErr>
         Refusal::NotAStore => behind(alloc, "the store file is no store", ""),
         Refusal::Damaged { at } => with_number(alloc, "the store is damaged at ", *at),
         Refusal::OutTaken { path } => with_path(alloc, "already there: ", path),
+        Refusal::NotBuilt { form } => with_number(alloc, "not built: form ", u64::from(*form)),
     }
 }
 

@@ -154,7 +154,7 @@ module _ (laws : Laws) (plan : Plan) (o : Opening) (now : Now) (stands : Stands 
       ap (λ ts. ts ++ cond (failed (now.reports n)) (id_at plan n ∷ []) []) (failed-told n)
       ∙ told-by (λ b r. failed_tasks plan s done n ++ cond (failed r) (id_at plan n ∷ []) [] ≡ failed_tasks plan s done n ++ cond (b && has_failed s n) (id_at plan n ∷ []) []) n refl refl
 
-  summary-told : summary_by plan now.reports ≡ summary_of plan s done
+  pub summary-told : summary_by plan now.reports ≡ summary_of plan s done
   unfolding summary_by
   summary-told =
       let n = length plan.listing.parts in

@@ -1,5 +1,5 @@
 -- What a run of a plan leaves.
-use Rattle.std.specs.Prelude.{◌≡◌, ◌≢◌, ℕ, true, false, List, ◌++◌, map, filter, length}
+use Rattle.std.specs.Prelude.{◌≡◌, ◌≢◌, ℕ, ◌≤◌, Bool, true, false, List, ◌++◌, map, filter, length}
 use Rattle.rel_path.specs.Paths.{Path}
 use Rattle.rel_path.specs.Files.{FileMap}
 use Rattle.globs.specs.Outputs.{takes}
@@ -16,7 +16,7 @@ use Rattle.run_laws.specs.Runs.{clean_pair}
 use Rattle.run_plan.specs.declared.plan.Plan.{Plan}
 use Rattle.run_plan.specs.Openings.{Opening, setting_of, tasks_of}
 use Rattle.run_plan.specs.Results.{effect_at, step_of, NotedAs, stores, ends_of, told_ends, due_pairs}
-use Rattle.run_plan.specs.Pages.{worst, page}
+use Rattle.run_plan.specs.Pages.{IsCut, worst, blocks, text_behind, page}
 
 -- What a run that came to its end leaves of files, pairs, room and steps, and which status it answers.
 --
@@ -36,6 +36,15 @@ pub record Ran (plan : Plan) (o : Opening) (files : FileMap) (pairs : List Pair)
   pub good : IsGood o.book pairs
   pub status_is : status ≡ worst plan (setting_of plan o) (is_reported (tasks_of plan o) mine) (length plan.listing.parts)
   pub page_is : Heard → after ≡ before ++ page plan (setting_of plan o) notes (is_reported (tasks_of plan o) mine)
+
+-- The page of a run that did not come to its end: whole blocks in the order of the plan, each that of the run without a
+-- cache, and of what follows them some first part.
+pub record IsTornPage (plan : Plan) (o : Opening) (output_failed : Bool) (before after : List ℕ) : Type 0 where
+  pub notes : ℕ → Note
+  pub reported : ℕ → Bool
+  pub shown : ℕ
+  pub within : shown ≤ length plan.listing.parts
+  pub cut : IsCut output_failed (text_behind plan (setting_of plan o) notes reported shown) (before ++ blocks plan (setting_of plan o) notes reported shown) after
 
 -- What holds of pairs and steps whatever a run answers: behind the pairs of the opening stands some first part of those
 -- that its ends add, and all are good. An end whose result was not put yet counts as one that is put.

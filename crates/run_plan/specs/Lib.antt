@@ -4,6 +4,7 @@ pub mod Commands
 pub mod Openings
 pub mod Results
 pub mod Pages
+pub mod DryPages
 pub mod Reports
 pub mod Answers
 pub mod Stories

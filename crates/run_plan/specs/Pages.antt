@@ -1,5 +1,5 @@
 -- The page of a run (Turborepo docs, "run": a block for each task, and the summary).
-use Rattle.std.specs.Prelude.{ℕ, zero, suc, ◌==◌, Bool, not, ◌&&◌, List, [], ◌∷◌, ◌++◌, length, max, if◌then◌else◌}
+use Rattle.std.specs.Prelude.{◌≡◌, ℕ, zero, suc, ◌==◌, Bool, false, not, ◌&&◌, List, [], ◌∷◌, ◌++◌, length, take, max, nat_lt, if◌then◌else◌}
 use Rattle.sha2.specs.Sha256.{sha256}
 use Rattle.listing.specs.Fingerprint.{printed}
 use Rattle.turbo_config.specs.declared.task_id.TaskId.{TaskId}
@@ -19,6 +19,12 @@ use Rattle.run_plan.specs.declared.plan.Plan.{Plan}
 use Rattle.run_plan.specs.declared.report.Report.{Report}
 use Rattle.run_plan.specs.Plans.{id_at, log_mode}
 use Rattle.run_plan.specs.Results.{effect_at}
+
+-- what was put of a text: some first part of it, and nothing where it was not the output that failed
+pub record IsCut (output_failed : Bool) (text before after : List ℕ) : Type 0 where
+  pub count : ℕ
+  pub none : output_failed ≡ false → count ≡ 0
+  pub put : after ≡ before ++ take count text
 
 abbrev pub page_mark : Mark → Printed
 page_mark Hit = printed_mark.Hit
@@ -80,6 +86,11 @@ script_count plan = count_below (λ t. has_script (part_at plan.listing t)) (len
 
 abbrev pub summary_of : Plan → Setting → (ℕ → Bool) → List ℕ
 summary_of plan s reported = summary_text (good_count plan s reported) (cached_count plan s reported) (script_count plan) (failed_tasks plan s reported (length plan.listing.parts))
+
+-- what a page has behind the blocks of the first n places: the block of the next task, where it has one, and behind
+-- all blocks the summary
+abbrev pub text_behind : Plan → Setting → (ℕ → Note) → (ℕ → Bool) → ℕ → List ℕ
+text_behind plan s notes reported n = if nat_lt n (length plan.listing.parts) then (if shows plan reported n then block_at plan s notes n else []) else summary_of plan s reported
 
 -- the blocks of the reported tasks in the order of the plan, whatever the order of ends, and the summary
 abbrev pub page : Plan → Setting → (ℕ → Note) → (ℕ → Bool) → List ℕ

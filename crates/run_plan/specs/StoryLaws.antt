@@ -30,7 +30,7 @@ use Rattle.run_plan.specs.Plans.{IsValidPlan, caches, bypasses}
 use Rattle.run_plan.specs.Commands.{command_of}
 use Rattle.run_plan.specs.Openings.{Opening, setting_of, rules_of, tasks_of}
 use Rattle.run_plan.specs.Results.{effect_at, step_of, KeptAs, NotedAs, ends_of, due_pairs}
-use Rattle.run_plan.specs.Pages.{print_of, block_of, blocks, worst, page}
+use Rattle.run_plan.specs.Pages.{print_of, block_of, blocks, summary_of, worst, page}
 use Rattle.run_plan.specs.Reports.{worst_by, summary_by}
 use Rattle.run_plan.specs.Answers.{IsSafe}
 use Rattle.run_plan.specs.Stories.{Now, Story, notes_in}
@@ -148,6 +148,8 @@ pub record StoryLaw : Type 0 where
   pub hide : (plan : Plan) (o : Opening) (now : Now) → Stands plan o now → now.reports now.shown ≡ None → blocks_upto plan o now (now.shown + 1) ≡ blocks_upto plan o now now.shown
   pub shown : (plan : Plan) (o : Opening) (now : Now) (logs : ℕ → List ℕ) → Stands plan o now → ((u : ℕ) → u ≢ now.shown → logs u ≡ now.logs u)
       → Story plan o (record now { logs = logs; shown = now.shown + 1 })
+  -- what the reports say of all tasks is what the tasks that are done say
+  pub summary : (plan : Plan) (o : Opening) (now : Now) → Stands plan o now → summary_by plan now.reports ≡ summary_of plan (setting_of plan o) (λ t. is_done (now.states t))
   -- what was put stays as it is
   pub kept : (plan : Plan) (o : Opening) (now later : Now) (n : ℕ) → ((u : ℕ) → u < n → (later.states u ≡ now.states u) × (later.reports u ≡ now.reports u)) → blocks_upto plan o later n ≡ blocks_upto plan o now n
   -- what holds at each moment

@@ -2,11 +2,12 @@
 //! each, and what a run of it is to leave.
 //!
 //! `specs/` says when a plan is valid (`Plans`), which command a task has (`Commands`), what is to become of each task
-//! (`Results`), what the page is (`Pages`), and what a run leaves (`Answers`). `Stories` and `StoryLaws` are for whoever
+//! (`Results`), what the page is (`Pages`) and what that of a dry run (`DryPages`), and what a run leaves (`Answers`). `Stories` and `StoryLaws` are for whoever
 //! proves a loop: how a run came to where it is, and what each of its moves does to that. There is no device here.
 #![tactic(auto)]
 
 mod command;
+mod dry_text;
 mod error;
 mod keys;
 mod laws;

@@ -26,7 +26,8 @@ fn copy_of(id: &TaskId) -> Result<TaskId, PlanErr>
     })
 }
 
-fn push_task(tasks: &mut TaskIds, id: &TaskId) -> Result<(), PlanErr>
+/// Adds a copy of the task.
+pub(crate) fn push_task(tasks: &mut TaskIds, id: &TaskId) -> Result<(), PlanErr>
     ensures pushed { OnOk result (tasks.new ≡ tasks.old ++ id.now ∷ []) }
     ensures memory { OnlyMemory result }
 {

@@ -1,8 +1,13 @@
 -- Why a run did not come to its end, by the counts of faults of its four devices.
-use Rattle.std.specs.Prelude.{◌≡◌, ℕ, ◌≤◌, Result, Ok, Err, IfErr}
+use Rattle.std.specs.Prelude.{◌≡◌, ℕ, ◌≤◌, Bool, true, false, Result, Ok, Err, IfErr}
 use Rattle.rel_path.specs.Causes.{Rose}
 use Rattle.runner.specs.declared.error.RunErr.{RunErr}
 use Rattle.runner.specs.declared.error.RunErr.TheVariants.{TreeFault, StoreFault, StartFault, SinkFault, OutOfMemory}
+
+-- the output failed
+abbrev pub is_sink_fault : RunErr → Bool
+is_sink_fault SinkFault = true
+is_sink_fault _ = false
 
 -- no error but want of memory, which may come at any time
 abbrev pub OnlyMemory : {T : Type 0} → Result T RunErr → Type 0

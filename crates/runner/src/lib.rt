@@ -1,9 +1,11 @@
 //! A run of a plan over its devices: tasks are looked up in the cache and replayed, or their commands started and waited
-//! for, as many at once as the plan says; results are put into the cache, and the page is printed as it comes.
+//! for, as many at once as the plan says; results are put into the cache, and the page is printed as it comes. A dry run
+//! only says what a run would do.
 #![tactic(auto)]
 
 mod board;
 mod devices;
+mod dry_run;
 mod ending;
 mod error;
 mod looking;
@@ -14,5 +16,6 @@ mod starting;
 mod tables;
 mod turns;
 
+pub use dry_run::dry;
 pub use error::RunErr;
 pub use running::run;

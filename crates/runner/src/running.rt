@@ -1,16 +1,16 @@
 // A whole run.
-ghost use Rattle.std.specs.Prelude.{◌≡◌, ◌≤◌, ◌<◌, ℕ, List, length, true, false, IsTrue, IfOk, OnOk, OnErr};
+ghost use Rattle.std.specs.Prelude.{◌≡◌, ◌≤◌, ◌<◌, ℕ, List, length, true, false, IsTrue, IfOk, IfErr, OnOk, OnErr};
 ghost use Rattle.run_core.specs.Core.{states};
 ghost use Rattle.run_core.specs.Machine.{next};
 ghost use Rattle.run_core.specs.Moves.{turns_left};
 ghost use Rattle.run_laws.specs.Runs.{IsReady};
-ghost use Rattle.run_plan.specs.Answers.{Ran, IsSafe, SameElsewhere};
+ghost use Rattle.run_plan.specs.Answers.{Ran, IsTornPage, IsSafe, SameElsewhere};
 ghost use Rattle.run_plan.specs.Openings.{Opening, setting_of, rules_of, HoldsInputs};
 ghost use Rattle.run_plan.specs.Plans.{IsValidPlan};
 ghost use Rattle.run_plan.specs.StoryLaws.{Stands};
 ghost use Rattle.runner.specs.Answers.{opening_of};
-ghost use Rattle.runner.specs.Boards.{IsBoard, InStep, AreOurs, ShowsSettled, PageIs, now_at};
-ghost use Rattle.runner.specs.Stops.{faults_of, StopsBy, EndsBy};
+ghost use Rattle.runner.specs.Boards.{IsBoard, InStep, AreOurs, ShowsSettled, PageIs, TearsAt, now_at};
+ghost use Rattle.runner.specs.Stops.{faults_of, StopsBy, EndsBy, is_sink_fault};
 ghost use Rattle.cache_api.specs.Pairs.{Pair};
 ghost use Rattle.spawn_dev.specs.Spawn.{IsIdle};
 
@@ -55,6 +55,8 @@ fn round<W: Spawner, C: Cache, K: Sink>(
         → Stands plan.now o (now_at board.old W.effect (W.runs world.old) (W.state world.old) (C.state cache.old).pairs (C.state cache.old).room)
         → PageIs plan.now o (now_at board.old W.effect (W.runs world.old) (W.state world.old) (C.state cache.old).pairs (C.state cache.old).room) before (K.written out.old)
         → PageIs plan.now o (now_at board.new W.effect (W.runs world.new) (W.state world.new) (C.state cache.new).pairs (C.state cache.new).room) before (K.written out.new)) }
+    ensures torn { W.tells → C.tells → K.tells → IfErr result (λ e. (o : Opening) → Stands plan.now o (now_at board.old W.effect (W.runs world.old) (W.state world.old) (C.state cache.old).pairs (C.state cache.old).room)
+        → TearsAt plan.now o (now_at board.old W.effect (W.runs world.old) (W.state world.old) (C.state cache.old).pairs (C.state cache.old).room) (is_sink_fault e) (K.written out.old) (K.written out.new)) }
     ensures safe { W.tells → C.tells → (o : Opening)
         → Stands plan.now o (now_at board.old W.effect (W.runs world.old) (W.state world.old) (C.state cache.old).pairs (C.state cache.old).room)
         → IsSafe plan.now o (W.runs world.new).steps (C.state cache.new).pairs }
@@ -84,6 +86,7 @@ fn rounds<W: Spawner, C: Cache, K: Sink>(
     ensures board { OnOk result (IsBoard plan.now board.new) }
     ensures over { OnOk result (next (rules_of plan.now) (states board.new.core) ≡ Next.Finished) }
     ensures steps { OnOk result (InStep plan.now (states board.new.core) (W.runs world.new)) }
+    ensures whole { OnOk result (IsTrue (C.state cache.new).whole) }
     ensures ours { AreOurs plan.now (W.runs world.new) }
     ensures elsewhere { W.tells → SameElsewhere plan.now (W.state world.old).files (W.state world.new).files }
     ensures stands { W.tells → C.tells → OnOk result ((o : Opening)
@@ -93,6 +96,8 @@ fn rounds<W: Spawner, C: Cache, K: Sink>(
         → Stands plan.now o (now_at board.old W.effect (W.runs world.old) (W.state world.old) (C.state cache.old).pairs (C.state cache.old).room)
         → PageIs plan.now o (now_at board.old W.effect (W.runs world.old) (W.state world.old) (C.state cache.old).pairs (C.state cache.old).room) before (K.written out.old)
         → PageIs plan.now o (now_at board.new W.effect (W.runs world.new) (W.state world.new) (C.state cache.new).pairs (C.state cache.new).room) before (K.written out.new)) }
+    ensures torn { W.tells → C.tells → K.tells → IfErr result (λ e. (o : Opening) → Stands plan.now o (now_at board.old W.effect (W.runs world.old) (W.state world.old) (C.state cache.old).pairs (C.state cache.old).room)
+        → TearsAt plan.now o (now_at board.old W.effect (W.runs world.old) (W.state world.old) (C.state cache.old).pairs (C.state cache.old).room) (is_sink_fault e) (K.written out.old) (K.written out.new)) }
     ensures safe { W.tells → C.tells → (o : Opening)
         → Stands plan.now o (now_at board.old W.effect (W.runs world.old) (W.state world.old) (C.state cache.old).pairs (C.state cache.old).room)
         → IsSafe plan.now o (W.runs world.new).steps (C.state cache.new).pairs }
@@ -119,11 +124,14 @@ fn run_through<W: Spawner, C: Cache, K: Sink>(
     requires idle { IsIdle (W.runs world.old) }
     requires whole { IsTrue (C.state cache.old).whole }
     ensures idle { OnOk result (IsIdle (W.runs world.new)) }
+    ensures whole { OnOk result (IsTrue (C.state cache.new).whole) }
     ensures ours { AreOurs plan.now (W.runs world.new) }
     ensures elsewhere { W.tells → SameElsewhere plan.now (W.state world.old).files (W.state world.new).files }
     ensures ran { W.tells → C.tells → IsReady (setting_of plan.now (opening_of W.effect (W.runs world.old) (W.state world.old).files (C.state cache.old).pairs)) → IfOk result
         (Ran plan.now (opening_of W.effect (W.runs world.old) (W.state world.old).files (C.state cache.old).pairs)
         (W.state world.new).files (C.state cache.new).pairs (C.state cache.new).room (W.runs world.new).steps K.tells (K.written out.old) (K.written out.new)) }
+    ensures torn { W.tells → C.tells → K.tells → IsReady (setting_of plan.now (opening_of W.effect (W.runs world.old) (W.state world.old).files (C.state cache.old).pairs)) → IfErr result
+        (λ e. IsTornPage plan.now (opening_of W.effect (W.runs world.old) (W.state world.old).files (C.state cache.old).pairs) (is_sink_fault e) (K.written out.old) (K.written out.new)) }
     ensures safe { W.tells → C.tells → IsReady (setting_of plan.now (opening_of W.effect (W.runs world.old) (W.state world.old).files (C.state cache.old).pairs))
         → IsSafe plan.now (opening_of W.effect (W.runs world.old) (W.state world.old).files (C.state cache.old).pairs) (W.runs world.new).steps (C.state cache.new).pairs }
     ensures cause { StopsBy (faults_of (W.state world.old).faults (C.state cache.old).faults (W.runs world.old).faults (K.faults out.old))
@@ -156,7 +164,8 @@ fn drain<W: Spawner>(alloc: Global, plan: &Plan, world: &mut W)
 /// is unsettled, and the summary at the end. The answer is the greatest status, and 0 where no task failed.
 ///
 /// Nothing may run in the world, the cache has to be whole, and where the world tells its files they have to hold the
-/// listing's bytes at its inputs. Of several faults the first is answered, after all running commands were waited for.
+/// listing's bytes at its inputs. Of several faults the first is answered, after all running commands were waited for;
+/// the page then has whole blocks in the order of the plan, and where the output failed some first part of what follows.
 ///
 /// The key of a task is made when it is looked up, and once more when its command has ended; it is not kept meanwhile.
 /// Beyond that, a task costs about as much as its closure has bytes.
@@ -172,6 +181,7 @@ pub fn run<W: Spawner, C: Cache, K: Sink>(
     requires whole { IsTrue (C.state cache.old).whole }
     requires inputs { W.tells → HoldsInputs plan.now (W.state world.old).files }
     ensures idle { IsIdle (W.runs world.new) }
+    ensures whole { OnOk result (IsTrue (C.state cache.new).whole) }
     ensures cause { EndsBy (faults_of (W.state world.old).faults (C.state cache.old).faults (W.runs world.old).faults (K.faults out.old))
         (faults_of (W.state world.new).faults (C.state cache.new).faults (W.runs world.new).faults (K.faults out.new)) result }
 
@@ -179,6 +189,10 @@ pub fn run<W: Spawner, C: Cache, K: Sink>(
     ensures ran { W.tells → C.tells → IsReady (setting_of plan.now (opening_of W.effect (W.runs world.old) (W.state world.old).files (C.state cache.old).pairs)) → IfOk result
         (Ran plan.now (opening_of W.effect (W.runs world.old) (W.state world.old).files (C.state cache.old).pairs)
         (W.state world.new).files (C.state cache.new).pairs (C.state cache.new).room (W.runs world.new).steps K.tells (K.written out.old) (K.written out.new)) }
+
+    // A run that did not.
+    ensures torn { W.tells → C.tells → K.tells → IsReady (setting_of plan.now (opening_of W.effect (W.runs world.old) (W.state world.old).files (C.state cache.old).pairs)) → IfErr result
+        (λ e. IsTornPage plan.now (opening_of W.effect (W.runs world.old) (W.state world.old).files (C.state cache.old).pairs) (is_sink_fault e) (K.written out.old) (K.written out.new)) }
 
     // Whatever it answers.
     ensures safe { W.tells → C.tells → IsReady (setting_of plan.now (opening_of W.effect (W.runs world.old) (W.state world.old).files (C.state cache.old).pairs))

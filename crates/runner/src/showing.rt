@@ -1,13 +1,14 @@
 // The page of a run, as it comes.
-ghost use Rattle.std.specs.Prelude.{◌≡◌, ◌+◌, ◌<◌, ◌&&◌, ◌++◌, ℕ, List, length, take, nat_lt, OnOk, OnErr};
+ghost use Rattle.std.specs.Prelude.{◌≡◌, ◌+◌, ◌<◌, ◌&&◌, ◌++◌, ℕ, List, length, nat_lt, OnOk, IfErr};
 ghost use Rattle.run_core.specs.Core.{states};
 ghost use Rattle.run_plan.specs.Openings.{Opening};
+ghost use Rattle.run_plan.specs.Pages.{IsCut};
 ghost use Rattle.run_plan.specs.Plans.{IsValidPlan};
 ghost use Rattle.run_plan.specs.Reports.{report_in, summary_by};
 ghost use Rattle.run_plan.specs.Stories.{Now, is_settled};
 ghost use Rattle.run_plan.specs.StoryLaws.{Stands};
-ghost use Rattle.runner.specs.Boards.{IsBoard, ShowsSettled, PageIs, with_board, next_text};
-ghost use Rattle.runner.specs.Stops.{faults_of, StopsBy};
+ghost use Rattle.runner.specs.Boards.{IsBoard, ShowsSettled, PageIs, TearsAt, with_board, next_text};
+ghost use Rattle.runner.specs.Stops.{faults_of, StopsBy, is_sink_fault};
 
 use crate::RunErr;
 use crate::board::Board;
@@ -17,10 +18,10 @@ use run_plan::{Plan, story_law};
 use std::alloc::Global;
 use tree_dev::Sink;
 
-// Puts a text into the sink.
-fn put_text<K: Sink>(alloc: Global, text: &[u8], out: &mut K) -> Result<(), RunErr>
+/// Puts a text into the sink.
+pub fn put_text<K: Sink>(alloc: Global, text: &[u8], out: &mut K) -> Result<(), RunErr>
     ensures put { K.tells → OnOk result (K.written out.new ≡ K.written out.old ++ text.now) }
-    ensures torn { K.tells → OnErr result ((count : ℕ) × (K.written out.new ≡ K.written out.old ++ take count text.now)) }
+    ensures torn { K.tells → IfErr result (λ e. IsCut (is_sink_fault e) text.now (K.written out.old) (K.written out.new)) }
     ensures cause { StopsBy (faults_of 0 0 0 (K.faults out.old)) (faults_of 0 0 0 (K.faults out.new)) result }
 {
     match emit(alloc, out, text) {
@@ -36,7 +37,7 @@ fn put_block<K: Sink>(alloc: Global, plan: &Plan, board: &Board, out: &mut K) ->
     requires board { IsBoard plan.now board.now }
     requires next { board.now.shown < length plan.now.listing.parts }
     ensures put { K.tells → OnOk result (K.written out.new ≡ K.written out.old ++ next_text plan.now board.now) }
-    ensures torn { K.tells → OnErr result ((count : ℕ) × (K.written out.new ≡ K.written out.old ++ take count (next_text plan.now board.now))) }
+    ensures torn { K.tells → IfErr result (λ e. IsCut (is_sink_fault e) (next_text plan.now board.now) (K.written out.old) (K.written out.new)) }
     ensures cause { StopsBy (faults_of 0 0 0 (K.faults out.old)) (faults_of 0 0 0 (K.faults out.new)) result }
 {
     let place = board.shown;
@@ -67,6 +68,8 @@ fn show_one<K: Sink>(
     ensures stands { OnOk result ((o : Opening) (now : Now) → Stands plan.now o (with_board now board.old) → Stands plan.now o (with_board now board.new)) }
     ensures page { K.tells → OnOk result ((o : Opening) (now : Now) (before : List ℕ) → Stands plan.now o (with_board now board.old)
         → PageIs plan.now o (with_board now board.old) before (K.written out.old) → PageIs plan.now o (with_board now board.new) before (K.written out.new)) }
+    ensures torn { K.tells → IfErr result (λ e. (o : Opening) (now : Now) → Stands plan.now o (with_board now board.old)
+        → TearsAt plan.now o (with_board now board.old) (is_sink_fault e) (K.written out.old) (K.written out.new)) }
     ensures cause { StopsBy (faults_of 0 0 0 (K.faults out.old)) (faults_of 0 0 0 (K.faults out.new)) result }
 {
     story_law();
@@ -109,6 +112,8 @@ pub fn show_settled<K: Sink>(
     ensures stands { OnOk result ((o : Opening) (now : Now) → Stands plan.now o (with_board now board.old) → Stands plan.now o (with_board now board.new)) }
     ensures page { K.tells → OnOk result ((o : Opening) (now : Now) (before : List ℕ) → Stands plan.now o (with_board now board.old)
         → PageIs plan.now o (with_board now board.old) before (K.written out.old) → PageIs plan.now o (with_board now board.new) before (K.written out.new)) }
+    ensures torn { K.tells → IfErr result (λ e. (o : Opening) (now : Now) → Stands plan.now o (with_board now board.old)
+        → TearsAt plan.now o (with_board now board.old) (is_sink_fault e) (K.written out.old) (K.written out.new)) }
     ensures cause { StopsBy (faults_of 0 0 0 (K.faults out.old)) (faults_of 0 0 0 (K.faults out.new)) result }
 {
     'settled: while can_show(plan, board) {
@@ -133,6 +138,8 @@ fn show_rest<K: Sink>(
     ensures stands { OnOk result ((o : Opening) (now : Now) → Stands plan.now o (with_board now board.old) → Stands plan.now o (with_board now board.new)) }
     ensures page { K.tells → OnOk result ((o : Opening) (now : Now) (before : List ℕ) → Stands plan.now o (with_board now board.old)
         → PageIs plan.now o (with_board now board.old) before (K.written out.old) → PageIs plan.now o (with_board now board.new) before (K.written out.new)) }
+    ensures torn { K.tells → IfErr result (λ e. (o : Opening) (now : Now) → Stands plan.now o (with_board now board.old)
+        → TearsAt plan.now o (with_board now board.old) (is_sink_fault e) (K.written out.old) (K.written out.new)) }
     ensures cause { StopsBy (faults_of 0 0 0 (K.faults out.old)) (faults_of 0 0 0 (K.faults out.new)) result }
 {
     'rest: while board.shown < plan.size() {
@@ -158,8 +165,11 @@ pub fn conclude<K: Sink>(
     ensures page { K.tells → OnOk result ((o : Opening) (now : Now) (before : List ℕ) → Stands plan.now o (with_board now board.old)
         → PageIs plan.now o (with_board now board.old) before (K.written out.old)
         → (text : List ℕ) × PageIs plan.now o (with_board now board.new) before text × (K.written out.new ≡ text ++ summary_by plan.now (report_in board.new.reports))) }
+    ensures torn { K.tells → IfErr result (λ e. (o : Opening) (now : Now) → Stands plan.now o (with_board now board.old)
+        → TearsAt plan.now o (with_board now board.old) (is_sink_fault e) (K.written out.old) (K.written out.new)) }
     ensures cause { StopsBy (faults_of 0 0 0 (K.faults out.old)) (faults_of 0 0 0 (K.faults out.new)) result }
 {
+    story_law();
     show_rest(alloc, plan, board, out)?;
     let summary = plan.summary(alloc, &board.reports)?;
     put_text(alloc, summary.as_slice(), out)?;

@@ -18,3 +18,5 @@ mod Fronts
 mod Noded
 mod Settled
 mod Ids
+mod PlanFacts
+mod TaskFacts

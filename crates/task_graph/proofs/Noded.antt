@@ -45,7 +45,7 @@ module _ (packages : List Package) (config : Setup) where
   node_is None id deps node is = cc
   node_is (Some text) id deps node is = absurd (cc)
 
-  ids_are : (ids : List TaskId) (nodes : List Node) → nodes_of packages config ids ≡ Ok nodes → ids_of nodes ≡ ids
+  pub ids_are : (ids : List TaskId) (nodes : List Node) → nodes_of packages config ids ≡ Ok nodes → ids_of nodes ≡ ids
   ids_are [] nodes is = let none : nodes ≡ [] = cc in ap ids_of none
   ids_are (id ∷ ids) nodes is =
       let p = parts (node_of packages config id) (nodes_of packages config ids) nodes is in

@@ -58,8 +58,10 @@ fn add_word(
     Ok(true)
 }
 
-/// The tasks that the words name.
-pub(crate) fn entry_tasks(
+/// The tasks that the words name, word by word. A word `task` names that task of each selected package that has a definition
+/// of it, and a word `package#task` that task, whatever is selected. `NoSuchTask` comes for the first word that names
+/// nothing.
+pub fn entry_tasks(
     alloc: Global,
     words: &Texts,
     selected: &Places,

@@ -20,10 +20,11 @@ mod slots;
 mod sorting;
 mod users;
 
+pub use entries::entry_tasks;
 pub use error::GraphErr;
 pub use expansion::expand;
 pub use graph::Graph;
-pub use laws::graph_law;
+pub use laws::{graph_law, plan_law, tasks_law};
 pub use lists::PlaceLists;
 pub use node::Node;
 pub use plan::PlanList;

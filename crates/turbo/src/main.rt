@@ -1,7 +1,7 @@
 //! `turbo`, the task runner for npm workspaces.
 #![tactic(auto)]
 
-use os_edge::{OsSink, OsWorld, WordErr, environment, words};
+use os_edge::{OsSink, OsStore, OsWorld, WordErr, environment, words};
 use std::process::ExitCode;
 use turbo_app::{Answer, turbo};
 
@@ -24,12 +24,14 @@ fn status_of(rt: &HostRuntime) -> u8 {
         return out_of_memory(rt);
     };
     let mut world = OsWorld::new(rt, alloc);
+    let store = OsStore::new(rt);
     let mut out = OsSink::new(rt);
-    let answer = turbo(
+    let (answer, _store) = turbo(
         alloc,
         words.as_slice(),
         env.as_slice(),
         &mut world,
+        store,
         &mut out,
     );
     match answer {

@@ -1,26 +1,26 @@
 -- What the program's answers say of its devices.
 use Rattle.std.specs.Prelude.{◌≡◌, ℕ, ◌≤◌, ◌<◌, ◌-◌, ◌^◌, ⊤}
 use Rattle.rel_path.specs.Causes.{Rose}
-use Rattle.literal_plan.specs.declared.error.Refusal.{Refusal}
+use Rattle.page.specs.declared.refusal.Refusal.{Refusal}
 use Rattle.turbo_app.specs.declared.answer.Answer.{Answer}
-use Rattle.turbo_app.specs.declared.answer.Answer.TheVariants.{Done, Refused, TreeFault, StartFault, SinkFault, OutOfMemory}
-use Rattle.turbo_app.specs.declared.stop.Stop.{Stop}
-use Rattle.turbo_app.specs.declared.stop.Stop.TheVariants.{StartFault as StartFault_stop, SinkFault as SinkFault_stop, OutOfMemory as OutOfMemory_stop}
+use Rattle.turbo_app.specs.declared.answer.Answer.TheVariants.{Done, Refused, TreeFault, StoreFault, StartFault, SinkFault, OutOfMemory}
 
 -- the status of a run that ended, and 1 otherwise
 abbrev pub exit_status : Answer → ℕ
 exit_status (Done status) = status
 exit_status (Refused refusal) = 1
 exit_status TreeFault = 1
+exit_status StoreFault = 1
 exit_status StartFault = 1
 exit_status SinkFault = 1
 exit_status OutOfMemory = 1
 
--- what holds of the status of a run that ended
+-- what holds of the status of a call that came to its end
 abbrev pub IfDone : Answer → (ℕ → Type 0) → Type 0
 IfDone (Done status) P = P status
 IfDone (Refused refusal) P = ⊤
 IfDone TreeFault P = ⊤
+IfDone StoreFault P = ⊤
 IfDone StartFault P = ⊤
 IfDone SinkFault P = ⊤
 IfDone OutOfMemory P = ⊤
@@ -30,37 +30,36 @@ abbrev pub IfRefused : Answer → (Refusal → Type 0) → Type 0
 IfRefused (Done status) P = ⊤
 IfRefused (Refused refusal) P = P refusal
 IfRefused TreeFault P = ⊤
+IfRefused StoreFault P = ⊤
 IfRefused StartFault P = ⊤
 IfRefused SinkFault P = ⊤
 IfRefused OutOfMemory P = ⊤
 
--- The counts of faults of the tree, of starting commands and of the sink.
+-- The counts of faults of the tree, of the store, of starting commands and of the sink.
 pub record FaultCounts : Type 0 where
   pub tree : ℕ
+  pub store : ℕ
   pub start : ℕ
   pub sink : ℕ
 
-abbrev pub counts_of : ℕ → ℕ → ℕ → FaultCounts
-counts_of tree start sink = record { tree = tree; start = start; sink = sink }
+abbrev pub counts_of : ℕ → ℕ → ℕ → ℕ → FaultCounts
+counts_of tree store start sink = record { tree = tree; store = store; start = start; sink = sink }
 
--- A fault is answered only where the device's own count rose, and none that goes before it did. A run that ended, or a refusal, leaves all counts.
+-- A fault is answered only where the device's own count rose, and none that goes before it did. What came to its end, or was refused, leaves all counts;
+-- after want of memory none rose but that of starting commands, where running ones were waited for.
 abbrev pub HasCauseIn : FaultCounts → FaultCounts → Answer → Type 0
 HasCauseIn old new (Done status) = new ≡ old
 HasCauseIn old new (Refused refusal) = new ≡ old
-HasCauseIn old new TreeFault = Rose old.tree new.tree
-HasCauseIn old new StartFault = Rose old.start new.start × (new.tree ≡ old.tree)
-HasCauseIn old new SinkFault = Rose old.sink new.sink × (new.tree ≡ old.tree)
-HasCauseIn old new OutOfMemory = ⊤
-
--- no count fell
-pub record NoneFell (old new : FaultCounts) : Type 0 where
-  pub tree : old.tree ≤ new.tree
-  pub start : old.start ≤ new.start
-  pub sink : old.sink ≤ new.sink
+HasCauseIn old new TreeFault = Rose old.tree new.tree × (new.store ≡ old.store)
+HasCauseIn old new StoreFault = Rose old.store new.store × (new.tree ≡ old.tree)
+HasCauseIn old new StartFault = Rose old.start new.start × (new.tree ≡ old.tree) × (new.store ≡ old.store)
+HasCauseIn old new SinkFault = Rose old.sink new.sink × (new.tree ≡ old.tree) × (new.store ≡ old.store)
+HasCauseIn old new OutOfMemory = (new.tree ≡ old.tree) × (new.store ≡ old.store) × (new.sink ≡ old.sink)
 
 -- no count rose, and none stood at the last value of a u64
 pub record IsQuiet (old new : FaultCounts) : Type 0 where
   pub tree : (new.tree ≤ old.tree) × (old.tree < 2 ^ 64 - 1)
+  pub store : (new.store ≤ old.store) × (old.store < 2 ^ 64 - 1)
   pub start : (new.start ≤ old.start) × (old.start < 2 ^ 64 - 1)
   pub sink : (new.sink ≤ old.sink) × (old.sink < 2 ^ 64 - 1)
 
@@ -69,12 +68,7 @@ abbrev pub IsNoFault : Answer → Type 0
 IsNoFault (Done status) = ⊤
 IsNoFault (Refused refusal) = ⊤
 IsNoFault TreeFault = ⊥
+IsNoFault StoreFault = ⊥
 IsNoFault StartFault = ⊥
 IsNoFault SinkFault = ⊥
 IsNoFault OutOfMemory = ⊤
-
--- what a run that was stopped answers
-abbrev pub answer_of : Stop → Answer
-answer_of StartFault_stop = StartFault
-answer_of SinkFault_stop = SinkFault
-answer_of OutOfMemory_stop = OutOfMemory

@@ -2,17 +2,19 @@
 ghost use Rattle.std.specs.Prelude.{◌≡◌};
 ghost use Rattle.turbo_app.specs.Answers.{exit_status};
 
-use literal_plan::Refusal;
+use page::Refusal;
 
 /// How a call of `turbo` ended.
 #[derive(Debug, Drop)]
 pub enum Answer {
-    /// The run ended. The status is 0 where no task failed, else the greatest status of a failed task.
+    /// What was asked for was done. The status is 0 where no task failed, else the greatest status of a failed task.
     Done { status: u8 },
     /// Nothing was started and nothing changed. The reason is all that was printed.
     Refused(Refusal),
-    /// A file could not be read.
+    /// A file could not be read, written or removed.
     TreeFault,
+    /// The store's device failed.
+    StoreFault,
     /// A command could not be started or waited for.
     StartFault,
     /// The output could not be written.

@@ -1,18 +1,15 @@
-//! The whole program over devices: what `turbo` does with its words, environment, files and output.
+//! The whole program over devices: what `turbo` does with its words, environment, files, store and output.
+//!
+//! `specs/` says what words ask for and why they are refused (`Asking`), what a call that came to its end leaves
+//! (`Outcomes`), and what answers say of the devices (`Answers`).
 #![tactic(auto)]
 
 mod answer;
-mod given;
-mod outcome;
-mod page;
-mod run;
-mod stop;
-mod tally;
-mod text;
+mod asking;
+mod running;
+mod telling;
 mod top;
 
 pub use answer::Answer;
-pub use literal_plan::{ManifestErr, Part, Refusal};
-pub use outcome::Outcome;
-pub use stop::Stop;
-pub use top::turbo;
+pub use page::Refusal;
+pub use top::{run_order, turbo};

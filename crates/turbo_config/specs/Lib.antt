@@ -8,6 +8,7 @@ pub mod Entries
 pub mod Tasks
 pub mod Files
 pub mod Setup
+pub mod Laws
 pub mod Sets
 pub mod Reads
 pub mod RootFile

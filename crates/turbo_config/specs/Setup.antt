@@ -79,9 +79,10 @@ is_script_task scripts task = is_task_name task && is_among scripts task
 abbrev pub script_entry : List (List ℕ) → List ℕ → Option Entry
 script_entry scripts task = if is_script_task scripts task then Some no_keys else None
 
--- with one: a name with a `#` is that of no task
+-- with one: the entries for a name that a task may have. Of the files' keys no other comes up here: a `package#task` of the
+-- root is looked up by its `task`, and a key that ends in no task's name is refused when its file is read
 abbrev pub file_entry : Tasks → List (List ℕ × PackageConfig) → List ℕ → List ℕ → Option Entry
-file_entry tasks packages pkg task = if has_hash task then None else merged (root_entry tasks pkg task) (own_entry packages pkg task)
+file_entry tasks packages pkg task = if is_task_name task then merged (root_entry tasks pkg task) (own_entry packages pkg task) else None
 
 abbrev pub entry_by : Option Tasks → Setup → List ℕ → List ℕ → Option Entry
 entry_by None setup pkg task = script_entry setup.scripts task

@@ -147,10 +147,11 @@ impl Config {
         &self.scripts
     }
 
-    /// The definition of a task of a package. Where the root has a turbo.json, the task has one where the root has the
-    /// key `package#task` or `task`, or the package's own file has `task`: it begins as the first of these two of the
-    /// root, or as the defaults, and each key of the package's own file replaces that key. Without the root's file a
-    /// task has the default definition where some package has a script of its name, and a task may have the name.
+    /// The definition of a task of a package, which only a name that a task may have has (`definition_law`). Where the
+    /// root has a turbo.json, the task has one where the root has the key `package#task` or `task`, or the package's own
+    /// file has `task`: it begins as the first of these two of the root, or as the defaults, and each key of the
+    /// package's own file replaces that key. Without the root's file a task has the default definition where some
+    /// package has a script of its name.
     #[tactic(auto, unfolding(crate::specs::Setup::task_def))]
     pub fn task_def(
         &self,

@@ -9,7 +9,7 @@ ghost use Rattle.turbo_config.specs.Setup as spec;
 use crate::entry::{Entry, TaskDef};
 use crate::error::ConfigErr;
 use crate::files::PackageConfig;
-use crate::names::{full_name, has_hash, is_task_name};
+use crate::names::{full_name, is_task_name};
 use crate::tasks::Tasks;
 use rel_path::Text;
 use std::alloc::Global;
@@ -99,7 +99,7 @@ pub(crate) fn def_by_files(
     ensures value { IfOk result (λ def. def ≡ option_map def_of (spec.file_entry tasks.now packages.now.entries «package».now task.now)) }
     ensures memory { OnlyMemory result }
 {
-    if has_hash(task.as_str()) {
+    if !is_task_name(task.as_str()) {
         return Ok(None);
     }
     let below = root_entry(alloc, tasks, package, task)?;

@@ -25,5 +25,5 @@ returns-in-Ok g c told =
     let pairs = (state_of c.in-Ok.opened).pairs in
     let Q = IsWithOrWithout pairs pair in
     let kept = at_device c.in-Ok.opened c.keep.new.cache Q (c.keep.ensures told) in
-    let next = subst (λ (d : g.row.S.Denot). LeavesOnly s.moment (LeftOf s.images_since) (device_of c.in-Ok.opened) d Q) (sym c.device.ensures) kept in
+    let next = subst (λ (d : g.row.S.Denot). LeavesOnly s.moment (LeftOf s.images_since) (device_of c.in-Ok.opened) d Q) (sym c.device.ensures.device) kept in
     leaves_then s.moment (LeftOf s.images_since) c.args.device (device_of c.in-Ok.opened) c.device.result (IsOneOf images) Q (IsLeftBy images pair) (c.in-Ok.ensures.left_ok told) next (opened images pair) (added images pair (s.content c.args.device) pairs (g.met.S.StoreDevice.as_it_reads c.args.device told) (c.in-Ok.ensures.pairs told))

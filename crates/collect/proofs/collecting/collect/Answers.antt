@@ -1,12 +1,15 @@
 use Rattle.std.proofs.Common.{ap, sym, ◌∙◌, length, arith}
-use Rattle.collect.proofs.Whole.{stop_plan, stop_rules, stop_gather, stop_total, collected, rules_among, tasks_stand, tasks_count, uses_count, rows_count, rows_below, made_as}
+use Rattle.collect.proofs.Whole.{stop_plan, stop_rules, stop_gather, stop_total, collected, rules_among, rules_sorted, some_listing, tasks_stand, tasks_count, uses_count, rows_count, rows_below, made_as}
 use Rattle.collect.proofs.collecting.collect.Goals as goal
 
 pub returns-in-Err-clause-collects : goal.returns-in-Err-clause-collects
 returns-in-Err-clause-collects g c = λ told. stop_plan _ _ _ _ c.args.env.now _ _ c.in-Err.e c.in-Err.ensures
 
 pub read_all-requires : goal.read_all-requires
-read_all-requires g c = record { free = λ path e. c.requires.free path (rules_among _ _ _ _ c.args.env.now _ c.in-Ok.plan c.in-Ok.ensures c.as_slice.result.now c.as_slice.ensures path e) }
+read_all-requires g c = record {
+  free = λ path e. c.requires.free path (rules_among _ _ _ _ c.args.env.now _ c.in-Ok.plan c.in-Ok.ensures c.as_slice.result.now c.as_slice.ensures path e);
+  ascend = rules_sorted _ _ _ _ c.args.env.now _ c.in-Ok.plan c.in-Ok.ensures c.as_slice.result.now c.as_slice.ensures c.requires.ascend;
+}
 
 pub returns-in-Err-read_all-clause-collects : goal.returns-in-Err-read_all-clause-collects
 returns-in-Err-read_all-clause-collects g c = λ told. stop_rules _ _ _ _ c.args.env.now _ c.in-Ok.plan c.in-Ok.ensures _ c.requires.ascend c.as_slice.result.now c.in-Err-read_all.e c.as_slice.ensures (c.in-Err-read_all.ensures.reads told)
@@ -47,3 +50,24 @@ returns-in-Ok-all_parts-clause-collects g c = λ told.
     collected _ _ _ _ c.args.env.now _ c.in-Ok.plan c.in-Ok.ensures (g.T.Tree.state c.args.tree.now).files c.requires.ascend c.in-Ok-read_all.ignores c.as_slice.result.now c.as_slice.ensures (c.in-Ok-read_all.ensures.reads told) c.in-Ok-rows_of.rows c.in-Ok-rows_of.ensures.rows
     (g.T.Tree.state c.read_all.new.tree).files c.in-Ok-read_all.ensures.looks.files c.deref.result.now c.deref.ensures.value c.as_slice-2.result.now c.as_slice-2.ensures c.in-Ok-gather.gathered (c.in-Ok-gather.ensures.reads told) c.in-Ok-all_parts.parts
     (made_as _ _ _ _ _ _ _ _ _ _ _ _ _ _ _ _ _ (ap (λ x. x.env) c.globals.ensures.value) c.as_slice-3.ensures c.deref-2.ensures.value c.deref-3.ensures.value c.deref-4.ensures.value c.deref-5.ensures.value c.in-Ok-all_parts.ensures.value) (omega (arith, c.if-gathered-gt-SUM_LIMIT.false))
+
+pub returns-in-Ok-all_parts-clause-listed : goal.returns-in-Ok-all_parts-clause-listed
+returns-in-Ok-all_parts-clause-listed g c =
+    some_listing _ _ _ _ c.args.env.now _ c.in-Ok.plan c.in-Ok.ensures c.requires.ascend c.in-Ok-read_all.ignores c.as_slice.result.now c.as_slice.ensures c.in-Ok-read_all.ensures.some c.in-Ok-rows_of.rows c.in-Ok-rows_of.ensures.rows
+    c.deref.result.now c.deref.ensures.value c.as_slice-2.result.now c.as_slice-2.ensures c.in-Ok-gather.gathered c.in-Ok-gather.ensures.some c.in-Ok-all_parts.parts
+    (made_as _ _ _ _ _ _ _ _ _ _ _ _ _ _ _ _ _ (ap (λ x. x.env) c.globals.ensures.value) c.as_slice-3.ensures c.deref-2.ensures.value c.deref-3.ensures.value c.deref-4.ensures.value c.deref-5.ensures.value c.in-Ok-all_parts.ensures.value) (omega (arith, c.if-gathered-gt-SUM_LIMIT.false))
+
+pub returns-in-Ok-all_parts-clause-ordered : goal.returns-in-Ok-all_parts-clause-ordered
+returns-in-Ok-all_parts-clause-ordered g c =
+    let some = returns-in-Ok-all_parts-clause-listed g c in
+    (c.listing_law.ensures _ _ _ some.0 _ _ _ _ (record { ascend = c.requires.ascend; outside = c.requires.outside; apart = c.requires.apart; ids = c.requires.ids; lower = c.requires.lower; deps = c.requires.deps }) some.1).ordered
+
+pub returns-in-Ok-all_parts-clause-apart : goal.returns-in-Ok-all_parts-clause-apart
+returns-in-Ok-all_parts-clause-apart g c =
+    let some = returns-in-Ok-all_parts-clause-listed g c in
+    (c.listing_law.ensures _ _ _ some.0 _ _ _ _ (record { ascend = c.requires.ascend; outside = c.requires.outside; apart = c.requires.apart; ids = c.requires.ids; lower = c.requires.lower; deps = c.requires.deps }) some.1).apart
+
+pub returns-in-Ok-all_parts-clause-inputs : goal.returns-in-Ok-all_parts-clause-inputs
+returns-in-Ok-all_parts-clause-inputs g c = λ told.
+    let listing = (returns-in-Ok-all_parts-clause-collects g c told).0 in
+    (c.listing_law.ensures _ _ _ _ _ _ _ _ (record { ascend = c.requires.ascend; outside = c.requires.outside; apart = c.requires.apart; ids = c.requires.ids; lower = c.requires.lower; deps = c.requires.deps }) listing).inputs

@@ -1,10 +1,13 @@
-use Rattle.std.proofs.Common.{ap, ◌∙◌, arith, subst}
-use Rattle.std.specs.Prelude.{Err}
+use Rattle.std.proofs.Common.{ap, ◌∙◌, arith, subst, rules}
+use Rattle.std.specs.Prelude.{Err, None}
+use Rattle.std.proofs.lemmas.List.{take_all}
 use Rattle.rel_path.specs.Files.{FileMap}
+use Rattle.collect.specs.Listings.{with_bytes}
 use Rattle.collect.specs.Refusals.{is_large}
 use Rattle.collect.specs.Steps.{ReadsOne}
 use Rattle.collect.proofs.Paths.{among_at}
 use Rattle.collect.proofs.Readings.{reads_next, reads_stop}
+use Rattle.collect.proofs.Found.{read_more}
 use Rattle.collect.proofs.reading.read_all.Goals as goal
 
 pub read_one-requires : goal.read_one-requires
@@ -23,6 +26,13 @@ loop-path-preserved g c =
     record {
       looks = record { files = more.files ∙ looks.files; rest = more.rest ∙ looks.rest; held = more.held ∙ looks.held; reach = more.reach ∙ looks.reach; faults = omega (arith, more.faults, looks.faults) };
       faults = c.in-Ok.ensures.cause.counted ∙ c.loop-path.invariant.faults;
+      some = read_more c.args.paths.now c.loop-path.path-index c.path-item.result c.loop-path.files c.add_file.new.files c.in-Ok.now c.requires.ascend c.loop-path-test.true c.path-item.is c.in-Ok-add_file.ensures.added c.loop-path.invariant.some;
       told = λ told. reads_next (g.T.Tree.state c.args.tree.now).files c.args.paths.now c.loop-path.path-index c.path-item.result c.loop-path.files c.add_file.new.files c.in-Ok.now c.loop-path-test.true (c.loop-path.invariant.told told)
           (rw (← c.path-item.is, ← looks.files) (c.in-Ok.ensures.reads told)) (rw (← c.path-item.is) c.in-Ok-add_file.ensures.added);
     }
+
+pub loop-path-init : goal.loop-path-init
+loop-path-init g c = record { looks = search rules; faults = search rules; some = (λ path. None, search rules); told = search rules }
+
+pub returns-clause-some : goal.returns-clause-some
+returns-clause-some g c = let s = c.loop-path.invariant.some in (s.0, s.1 ∙ ap (with_bytes s.0) (take_all c.loop-path.path-index c.args.paths.now (omega (arith, c.loop-path-test.false))))

@@ -1,4 +1,5 @@
 use Rattle.std.proofs.Common.{◌≡◌, ◌+◌, ◌<◌, ℕ, Bool, true, false, cond, ap, arith, refl}
+use Rattle.std.proofs.lemmas.Result.{err_from_is_err_and}
 use Rattle.run_core.specs.Core.{states}
 use Rattle.run_core.specs.Moves.{turns_left}
 use Rattle.run_plan.specs.Openings.{rules_of}
@@ -15,3 +16,8 @@ turns-smaller g c =
 
 pub returns-clause-safe : goal.returns-clause-safe
 returns-clause-safe g c told store o stands = c.story_law.ensures.safe c.args.plan.now o _ (c.turns.invariant.stands told store o stands)
+
+pub returns-in_err-more-clause-torn : goal.returns-in_err-more-clause-torn
+returns-in_err-more-clause-torn g c told store heard =
+    let p = err_from_is_err_and c.from_residual.result c.from_residual.ensures.1 in
+    rw (p.1, p.2) (λ o stands before page. c.in_err-more.ensures.torn told store heard o (c.turns.invariant.stands told store o stands) before (c.turns.invariant.page told store heard o before stands page))

@@ -1,5 +1,6 @@
 use Rattle.std.proofs.Common.{◌≡◌, ◌++◌, ◌∙◌, [], None, ap, sym, refl, append-nil, append_assoc, length, inl, inr}
 use Rattle.std.proofs.lemmas.Bool.{cases_Bool}
+use Rattle.std.proofs.lemmas.Result.{err_from_is_err_and}
 use Rattle.run_core.specs.Core.{states}
 use Rattle.run_core.specs.Machine.{runs, is_done}
 use Rattle.run_core.specs.declared.states.State.TheVariants.{Waiting}
@@ -14,6 +15,7 @@ use Rattle.runner.specs.Answers.{opening_of}
 use Rattle.runner.specs.Boards.{now_at, with_board, is_begun}
 use Rattle.runner.specs.Tables.{log_in}
 use Rattle.runner.proofs.WorldFacts.{running-is}
+use Rattle.runner.proofs.PageFacts.{torn-none}
 use Rattle.runner.proofs.ToldFacts.{become}
 use Rattle.runner.proofs.running.run_through.Goals as goal
 
@@ -101,3 +103,38 @@ returns-clause-safe g c told store ready =
     let new = now_at c.in_ok-board.board g.W.Spawner.effect (g.W.Spawner.runs c.args.world.now) (g.W.Tree.state c.args.world.now) (g.C.Cache.state c.args.cache.now).pairs (g.C.Cache.state c.args.cache.now).room in
     let first = become plan o zero zero new stands (sym c.in_ok-board.ensures.states) refl refl refl refl refl refl (sym c.in_ok-board.ensures.reports) refl (sym c.in_ok-board.ensures.shown) stands.story in
     c.story_law.ensures.safe plan o _ (c.in_ok-rounds.ensures.stands told store o first)
+
+pub returns-in_err-board-clause-torn : goal.returns-in_err-board-clause-torn
+returns-in_err-board-clause-torn g c told store heard ready =
+    let o = opening_of g.W.Spawner.effect (g.W.Spawner.runs c.args.world.now) (g.W.Tree.state c.args.world.now).files (g.C.Cache.state c.args.cache.now).pairs in
+    let p = err_from_is_err_and c.from_residual.result c.from_residual.ensures.1 in
+    rw (p.1, p.2) (torn-none c.args.plan.now o _ (g.K.Sink.written c.args.out.now))
+
+pub returns-in_err-rounds-clause-torn : goal.returns-in_err-rounds-clause-torn
+returns-in_err-rounds-clause-torn g c told store heard ready =
+    let plan = c.args.plan.now in
+    let o = opening_of g.W.Spawner.effect (g.W.Spawner.runs c.args.world.now) (g.W.Tree.state c.args.world.now).files (g.C.Cache.state c.args.cache.now).pairs in
+    let zero : Now = record { states = λ t. Waiting; book = o.book; steps = o.steps; will = (g.W.Spawner.runs c.args.world.now).will; files = o.files; pairs = o.pairs; room = (g.C.Cache.state c.args.cache.now).room; reports = λ t. None; logs = log_in c.in_ok-board.board.logs; shown = 0 } in
+    let stands : Stands plan o zero = record { valid = c.requires.plan; ready = ready; story = c.story_law.ensures.first plan o zero.will zero.room zero.logs } in
+    let new = now_at c.in_ok-board.board g.W.Spawner.effect (g.W.Spawner.runs c.args.world.now) (g.W.Tree.state c.args.world.now) (g.C.Cache.state c.args.cache.now).pairs (g.C.Cache.state c.args.cache.now).room in
+    let first = become plan o zero zero new stands (sym c.in_ok-board.ensures.states) refl refl refl refl refl refl (sym c.in_ok-board.ensures.reports) refl (sym c.in_ok-board.ensures.shown) stands.story in
+    let before = g.K.Sink.written c.args.out.now in
+    let page_first : before ≡ before ++ blocks_upto plan o new new.shown = sym (append-nil before) ∙ ap (λ k. before ++ blocks_upto plan o new k) (sym c.in_ok-board.ensures.shown) in
+    let p = err_from_is_err_and c.from_residual-in_err-rounds.result c.from_residual-in_err-rounds.ensures.1 in
+    rw (p.1, p.2) (c.in_err-rounds.ensures.torn told store heard o first before page_first)
+
+pub returns-in_err-conclude-clause-torn : goal.returns-in_err-conclude-clause-torn
+returns-in_err-conclude-clause-torn g c told store heard ready =
+    let plan = c.args.plan.now in
+    let o = opening_of g.W.Spawner.effect (g.W.Spawner.runs c.args.world.now) (g.W.Tree.state c.args.world.now).files (g.C.Cache.state c.args.cache.now).pairs in
+    let zero : Now = record { states = λ t. Waiting; book = o.book; steps = o.steps; will = (g.W.Spawner.runs c.args.world.now).will; files = o.files; pairs = o.pairs; room = (g.C.Cache.state c.args.cache.now).room; reports = λ t. None; logs = log_in c.in_ok-board.board.logs; shown = 0 } in
+    let stands : Stands plan o zero = record { valid = c.requires.plan; ready = ready; story = c.story_law.ensures.first plan o zero.will zero.room zero.logs } in
+    let new = now_at c.in_ok-board.board g.W.Spawner.effect (g.W.Spawner.runs c.args.world.now) (g.W.Tree.state c.args.world.now) (g.C.Cache.state c.args.cache.now).pairs (g.C.Cache.state c.args.cache.now).room in
+    let first = become plan o zero zero new stands (sym c.in_ok-board.ensures.states) refl refl refl refl refl refl (sym c.in_ok-board.ensures.reports) refl (sym c.in_ok-board.ensures.shown) stands.story in
+    let before = g.K.Sink.written c.args.out.now in
+    let page_first : before ≡ before ++ blocks_upto plan o new new.shown = sym (append-nil before) ∙ ap (λ k. before ++ blocks_upto plan o new k) (sym c.in_ok-board.ensures.shown) in
+    let last = now_at c.rounds.new.board g.W.Spawner.effect (g.W.Spawner.runs c.rounds.new.world) (g.W.Tree.state c.rounds.new.world) (g.C.Cache.state c.rounds.new.cache).pairs (g.C.Cache.state c.rounds.new.cache).room in
+    let stood = c.in_ok-rounds.ensures.stands told store o first in
+    let page_last = c.in_ok-rounds.ensures.page told store heard o before first page_first in
+    let p = err_from_is_err_and c.from_residual-in_err-conclude.result c.from_residual-in_err-conclude.ensures.1 in
+    rw (p.1, p.2) (c.in_err-conclude.ensures.torn heard o last stood before page_last)

@@ -1,4 +1,5 @@
-use Rattle.runner.proofs.PageFacts.{stands-on, page-on}
+use Rattle.std.proofs.lemmas.Result.{err_from_is_err_and}
+use Rattle.runner.proofs.PageFacts.{stands-on, page-on, tears-next}
 use Rattle.runner.proofs.showing.show_one.Goals as goal
 
 pub returns-clause-stands : goal.returns-clause-stands
@@ -9,3 +10,8 @@ pub returns-clause-page : goal.returns-clause-page
 returns-clause-page g c told o now before stands page =
     page-on c.args.plan.now c.story_law.ensures c.args.board.now c.turn_page.new.self c.turn_page.ensures.core c.turn_page.ensures.reports c.turn_page.ensures.logs c.turn_page.ensures.shown o now stands
     before (g.K.Sink.written c.args.out.now) (g.K.Sink.written c.put_block.new.out) page (c.in_ok-put_block.ensures.put told)
+
+pub returns-in_err-put_block-clause-torn : goal.returns-in_err-put_block-clause-torn
+returns-in_err-put_block-clause-torn g c told =
+    let p = err_from_is_err_and c.from_residual.result c.from_residual.ensures.1 in
+    rw (p.1, p.2) (λ o now stands. tears-next c.args.plan.now c.story_law.ensures c.args.board.now o now stands c.requires.next _ (g.K.Sink.written c.args.out.now) (g.K.Sink.written c.put_block.new.out) (c.in_err-put_block.ensures.torn told))

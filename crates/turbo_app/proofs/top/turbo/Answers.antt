@@ -1,8 +1,29 @@
-use Rattle.turbo_app.proofs.Causes.{never-refused, no-fault}
+-- What words ask for, by their order.
+use Rattle.std.proofs.Common.{◌∙◌, ap, Ok}
+use Rattle.cli_words.specs.declared.order.Order.TheVariants.{Run}
+use Rattle.turbo_app.proofs.Causes.{no_fault}
 use Rattle.turbo_app.proofs.top.turbo.Goals as goal
 
-pub returns-clause-planned : goal.returns-clause-planned
-returns-clause-planned g c = λ told parts plan. never-refused c.args.words.now (g.W.Tree.state c.args.world.now).files parts plan c.answer.result (c.answer.ensures.refused told)
+pub run_order-requires-clause-wide : goal.run_order-requires-clause-wide
+run_order-requires-clause-wide g c = (c.width_law.ensures c.args.words.now (Run c.in-Ok-Run.order) (c.in-Ok-Run.ensures.order ∙ ap (λ o. Ok o) c.in-Ok-Run.field-0-is)).0
+
+pub run_order-requires-clause-narrow : goal.run_order-requires-clause-narrow
+run_order-requires-clause-narrow g c = (c.width_law.ensures c.args.words.now (Run c.in-Ok-Run.order) (c.in-Ok-Run.ensures.order ∙ ap (λ o. Ok o) c.in-Ok-Run.field-0-is)).1
+
+pub returns-in-Ok-Help-clause-cause : goal.returns-in-Ok-Help-clause-cause
+returns-in-Ok-Help-clause-cause g c = c.help.ensures.cause (g.W.Tree.state c.args.world.now).faults (g.S.StoreDevice.store_faults c.args.store) (g.W.Spawner.runs c.args.world.now).faults
+
+pub returns-in-Ok-Help-clause-quiet : goal.returns-in-Ok-Help-clause-quiet
+returns-in-Ok-Help-clause-quiet g c = λ quiet. no_fault _ _ c.help.result (c.help.ensures.cause (g.W.Tree.state c.args.world.now).faults (g.S.StoreDevice.store_faults c.args.store) (g.W.Spawner.runs c.args.world.now).faults) quiet
+
+pub returns-in-Ok-Prune-clause-cause : goal.returns-in-Ok-Prune-clause-cause
+returns-in-Ok-Prune-clause-cause g c = c.refuse.ensures.cause (g.W.Tree.state c.args.world.now).faults (g.S.StoreDevice.store_faults c.args.store) (g.W.Spawner.runs c.args.world.now).faults
+
+pub returns-in-Ok-Prune-clause-quiet : goal.returns-in-Ok-Prune-clause-quiet
+returns-in-Ok-Prune-clause-quiet g c = λ quiet. no_fault _ _ c.refuse.result (c.refuse.ensures.cause (g.W.Tree.state c.args.world.now).faults (g.S.StoreDevice.store_faults c.args.store) (g.W.Spawner.runs c.args.world.now).faults) quiet
+
+pub returns-clause-cause : goal.returns-clause-cause
+returns-clause-cause g c = c.refuse_words.ensures.cause (g.W.Tree.state c.args.world.now).faults (g.S.StoreDevice.store_faults c.args.store) (g.W.Spawner.runs c.args.world.now).faults
 
 pub returns-clause-quiet : goal.returns-clause-quiet
-returns-clause-quiet g c = λ quiet. no-fault _ _ c.answer.result c.answer.ensures.cause quiet
+returns-clause-quiet g c = λ quiet. no_fault _ _ c.refuse_words.result (c.refuse_words.ensures.cause (g.W.Tree.state c.args.world.now).faults (g.S.StoreDevice.store_faults c.args.store) (g.W.Spawner.runs c.args.world.now).faults) quiet

@@ -1,0 +1,7 @@
+mod Ending
+mod Following
+mod Entered
+mod Wanting
+mod Handing
+mod Valid
+mod Whole

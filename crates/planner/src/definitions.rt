@@ -1,0 +1,41 @@
+// The definitions of the planned tasks.
+ghost use Rattle.std.specs.Prelude.{◌≡◌, true, Some, IfOk};
+ghost use Rattle.std.specs.List.{AllByRecursion};
+ghost use Rattle.turbo_config.specs.Setup.{task_def};
+ghost use Rattle.task_graph.specs.Tasks.{has_def};
+ghost use Rattle.collect.specs.Listings.{ArePaired};
+ghost use Rattle.planner.specs.Steps.{OnlyMemory};
+
+use crate::PlannerErr;
+use run_plan::TaskDefs;
+use std::alloc::Global;
+use turbo_config::{Config, TaskDef, TaskId};
+
+/// The definition of a task that has one.
+fn def_of(alloc: Global, config: &Config, id: &TaskId) -> Result<TaskDef, PlannerErr>
+    requires { has_def config.now id.now ≡ true }
+    ensures value { IfOk result (λ def. task_def config.now id.now.«package» id.now.task ≡ Some def) }
+    ensures memory { OnlyMemory result }
+{
+    match config.task_def(alloc, &id.package, &id.task)? {
+        Some(def) => Ok(def),
+        None => unreachable!(),
+    }
+}
+
+/// The definition of each task.
+pub(crate) fn defs_of(
+    alloc: Global,
+    config: &Config,
+    ids: &[TaskId],
+) -> Result<TaskDefs, PlannerErr>
+    requires { AllByRecursion (λ id. has_def config.now id ≡ true) ids.now }
+    ensures value { IfOk result (ArePaired (λ id def. task_def config.now id.«package» id.task ≡ Some def) ids.now) }
+    ensures memory { OnlyMemory result }
+{
+    let mut defs = TaskDefs::new(alloc);
+    for id in ids {
+        defs.push(def_of(alloc, config, id)?)?;
+    }
+    Ok(defs)
+}

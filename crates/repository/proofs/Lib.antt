@@ -1,0 +1,3 @@
+mod Homes
+mod Files
+mod Whole

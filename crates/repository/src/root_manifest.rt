@@ -1,0 +1,66 @@
+// The root manifest, read.
+ghost use Rattle.std.specs.Prelude.{◌≡◌, ◌++◌, ◌∷◌, [], false, IfOk};
+ghost use Rattle.rel_path.specs.Paths.{Path};
+ghost use Rattle.tree_dev.specs.Tree.{Looks};
+ghost use Rattle.manifest.specs.Manifest.{AreAscending};
+ghost use Rattle.workspaces.specs.Space.{manifest_name};
+ghost use Rattle.repository.specs.Steps.{at_root};
+ghost use Rattle.repository.specs.Cause.{HasCause};
+ghost use Rattle.repository.specs.Reading.{root_from, root_manifest};
+ghost use Rattle.repository.specs.Answers.{Answers, manifest_stop};
+
+use crate::RepositoryErr;
+use manifest::{Manifest, ManifestErr};
+use page::Refusal;
+use rel_path::RelPath;
+use std::alloc::Global;
+use tree_dev::{DevErr, Found, Tree};
+
+/// The most bytes of a file that is read: 16 MiB.
+pub(crate) const FILE_LIMIT: u64 = 16_777_216;
+
+fn manifest_refused(path: RelPath, fault: ManifestErr) -> RepositoryErr
+    ensures { result ≡ manifest_stop path fault }
+{
+    match fault {
+        ManifestErr::OutOfMemory => RepositoryErr::OutOfMemory,
+        fault => RepositoryErr::Refused(Refusal::Manifest { path, fault }),
+    }
+}
+
+/// The root manifest by what was found at its path.
+fn root_from(alloc: Global, path: RelPath, found: Found) -> Result<Manifest, RepositoryErr>
+    requires { path ≡ at_root manifest_name }
+    ensures answers { Answers (root_from found) result }
+    ensures ascending { IfOk result AreAscending }
+    ensures no_failure { HasCause 0 0 result }
+{
+    match found {
+        Found::Absent => Err(RepositoryErr::Refused(Refusal::NoManifest)),
+        Found::TooLong => Err(RepositoryErr::Refused(Refusal::TooLarge { path })),
+        Found::Here(bytes) => match Manifest::read(alloc, bytes.as_slice(), true) {
+            Ok(manifest) => Ok(manifest),
+            Err(fault) => Err(manifest_refused(path, fault)),
+        },
+    }
+}
+
+/// The root manifest. The refusals: `NoManifest`, `TooLarge`, `Manifest`.
+#[tactic(auto, unfolding(crate::specs::Reading::root_manifest))]
+pub(crate) fn root_manifest<T: Tree>(alloc: Global, tree: &mut T) -> Result<Manifest, RepositoryErr>
+    requires none { (path : Path) → (T.state tree.old).held path ≡ false }
+    ensures looks { Looks (T.state tree.old) (T.state tree.new) }
+    ensures answers { T.tells → Answers (root_manifest (T.state tree.old).files) result }
+    ensures ascending { IfOk result AreAscending }
+    ensures cause { HasCause (T.state tree.old).faults (T.state tree.new).faults result }
+{
+    let path = match RelPath::root(alloc).join(alloc, "package.json") {
+        Ok(path) => path,
+        Err(_) => return Err(RepositoryErr::OutOfMemory),
+    };
+    match tree.read(alloc, &path, FILE_LIMIT) {
+        Ok(found) => root_from(alloc, path, found),
+        Err(DevErr::Failed) => Err(RepositoryErr::Failed),
+        Err(DevErr::OutOfMemory) => Err(RepositoryErr::OutOfMemory),
+    }
+}

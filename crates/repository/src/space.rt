@@ -1,0 +1,95 @@
+// The walk and the workspace, with their faults as refusals.
+ghost use Rattle.std.specs.Prelude.{◌≡◌, false, IfOk};
+ghost use Rattle.rel_path.specs.Paths.{Path};
+ghost use Rattle.tree_dev.specs.Tree.{Looks};
+ghost use Rattle.manifest.specs.Manifest.{AreAscending};
+ghost use Rattle.tree_walk.specs.Walked.{IsWalk};
+ghost use Rattle.workspaces.specs.Space.{manifest_name, space_of};
+ghost use Rattle.repository.specs.Steps.{at_root};
+ghost use Rattle.repository.specs.Cause.{HasCause};
+ghost use Rattle.repository.specs.Answers.{AnswersWalk, AnswersSpace, walk_stop, space_stop};
+
+use crate::RepositoryErr;
+use manifest::Manifest;
+use page::Refusal;
+use rel_path::{Paths, RelPath};
+use std::alloc::Global;
+use tree_dev::Tree;
+use tree_walk::{WalkErr, walk};
+use workspaces::{Packages, SpaceErr, discover};
+
+fn walk_refused(fault: WalkErr) -> RepositoryErr
+    ensures { result ≡ walk_stop fault }
+{
+    match fault {
+        WalkErr::TooDeep { path } => RepositoryErr::Refused(Refusal::TooDeep { path }),
+        WalkErr::TooMany => RepositoryErr::Refused(Refusal::TooMany),
+        WalkErr::Failed => RepositoryErr::Failed,
+        WalkErr::OutOfMemory => RepositoryErr::OutOfMemory,
+    }
+}
+
+/// The walked files. The refusals: `TooDeep`, `TooMany`.
+pub(crate) fn walked<T: Tree>(alloc: Global, tree: &mut T) -> Result<Paths, RepositoryErr>
+    requires none { (path : Path) → (T.state tree.old).held path ≡ false }
+    ensures looks { Looks (T.state tree.old) (T.state tree.new) }
+    ensures answers { T.tells → AnswersWalk (T.state tree.old).files result }
+    ensures walk { IfOk result IsWalk }
+    ensures cause { HasCause (T.state tree.old).faults (T.state tree.new).faults result }
+{
+    match walk(alloc, tree) {
+        Ok(walk) => Ok(walk),
+        Err(fault) => Err(walk_refused(fault)),
+    }
+}
+
+fn space_refused(manifest: RelPath, fault: SpaceErr) -> RepositoryErr
+    requires { manifest ≡ at_root manifest_name }
+    ensures { result ≡ space_stop fault }
+{
+    let reason = match fault {
+        SpaceErr::Glob { pointer, fault } => Refusal::Glob {
+            path: manifest,
+            pointer,
+            fault,
+        },
+        SpaceErr::TooLarge { path } => Refusal::TooLarge { path },
+        SpaceErr::Manifest { path, fault } => Refusal::Manifest { path, fault },
+        SpaceErr::Inside { outer, inner } => Refusal::Inside { outer, inner },
+        SpaceErr::NameTwice {
+            name,
+            first,
+            second,
+        } => Refusal::NameTwice {
+            name,
+            first,
+            second,
+        },
+        SpaceErr::Failed => return RepositoryErr::Failed,
+        SpaceErr::OutOfMemory => return RepositoryErr::OutOfMemory,
+    };
+    RepositoryErr::Refused(reason)
+}
+
+/// The packages of the workspace. The refusals: `Glob`, `TooLarge` and `Manifest`, `Inside`, `NameTwice`.
+pub(crate) fn space_of<T: Tree>(
+    alloc: Global,
+    tree: &mut T,
+    root: Manifest,
+    walk: &Paths,
+) -> Result<Packages, RepositoryErr>
+    requires root { AreAscending root }
+    requires none { (path : Path) → (T.state tree.old).held path ≡ false }
+    ensures looks { Looks (T.state tree.old) (T.state tree.new) }
+    ensures answers { T.tells → AnswersSpace (space_of (T.state tree.old).files walk.now root) result }
+    ensures cause { HasCause (T.state tree.old).faults (T.state tree.new).faults result }
+{
+    let manifest = match RelPath::root(alloc).join(alloc, "package.json") {
+        Ok(path) => path,
+        Err(_) => return Err(RepositoryErr::OutOfMemory),
+    };
+    match discover(alloc, tree, root, walk) {
+        Ok(packages) => Ok(packages),
+        Err(fault) => Err(space_refused(manifest, fault)),
+    }
+}

@@ -1,7 +1,0 @@
-//! Tests of whole runs over devices in memory.
-#![tactic(auto)]
-
-mod faults;
-mod refusals;
-mod repository;
-mod runs;

@@ -1,0 +1,23 @@
+use Rattle.std.proofs.Common.{◌≤◌, length, refl, ◌∙◌, arith}
+use Rattle.std.proofs.lemmas.Result.{err_from_is_err_and}
+use Rattle.runner.proofs.PageFacts.{cut-as, tears-here, tears-last}
+use Rattle.runner.proofs.showing.conclude.Goals as goal
+
+pub returns-in_err-summary-clause-torn : goal.returns-in_err-summary-clause-torn
+returns-in_err-summary-clause-torn g c told =
+    let board = c.show_rest.new.board in
+    let rest = c.in_ok-show_rest.ensures in
+    let written = g.K.Sink.written c.show_rest.new.out in
+    let le : board.shown ≤ length c.args.plan.now.listing.parts = omega (arith, rest.shown) in
+    let p = err_from_is_err_and c.from_residual-in_err-summary.result c.from_residual-in_err-summary.ensures.1 in
+    rw (p.1, p.2) (λ o now stands before page. tears-here c.args.plan.now c.story_law.ensures board o now (rest.stands o now stands) le _ written written refl before (rest.page told o now before stands page))
+
+pub returns-in_err-put_text-clause-torn : goal.returns-in_err-put_text-clause-torn
+returns-in_err-put_text-clause-torn g c told =
+    let board = c.show_rest.new.board in
+    let rest = c.in_ok-show_rest.ensures in
+    let written = g.K.Sink.written c.show_rest.new.out in
+    let after = g.K.Sink.written c.put_text.new.out in
+    let cut = cut-as _ _ _ written written after (c.as_slice.ensures ∙ c.in_ok-summary.ensures.text) refl (c.in_err-put_text.ensures.torn told) in
+    let p = err_from_is_err_and c.from_residual-in_err-put_text.result c.from_residual-in_err-put_text.ensures.1 in
+    rw (p.1, p.2) (λ o now stands before page. tears-last c.args.plan.now c.story_law.ensures board o now (rest.stands o now stands) rest.shown _ written after cut before (rest.page told o now before stands page))

@@ -1,0 +1,11 @@
+-- Where the repository or the plan is refused the tree's count stayed.
+use Rattle.std.proofs.Common.{sym, subst}
+use Rattle.rel_path.specs.Causes.{Counts}
+use Rattle.turbo_app.specs.Answers.{HasCauseIn, counts_of}
+use Rattle.turbo_app.specs.Steps.{is_failed, raised}
+use Rattle.turbo_app.proofs.top.unplanned.Goals as goal
+
+pub returns-in-Refused-clause-cause : goal.returns-in-Refused-clause-cause
+returns-in-Refused-clause-cause g c = λ before after store start counts.
+    let known = subst (λ s. Counts {T = Unit {0}} is_failed before after (raised s)) c.in-Refused.is counts in
+    subst (λ n. HasCauseIn (counts_of before store start (g.K.Sink.faults c.args.out.now)) (counts_of n store start (g.K.Sink.faults c.refuse.new.out)) c.refuse.result) (sym known.counted) (c.refuse.ensures.cause before store start)

@@ -1,0 +1,69 @@
+-- What the steps of a call answer.
+use Rattle.std.specs.Prelude.{◌≡◌, ◌≢◌, ℕ, Bool, true, false, List, Result, Ok, Err}
+use Rattle.rel_path.specs.Causes.{Counts}
+use Rattle.rel_path.specs.Files.{FileMap}
+use Rattle.run_plan.specs.declared.plan.Plan.{Plan}
+use Rattle.turbo_app.specs.declared.asking.NoPlan.{NoPlan}
+use Rattle.turbo_app.specs.declared.asking.NoPlan.TheVariants.{Refused, Failed, OutOfMemory}
+use Rattle.cli_words.specs.declared.order.RunOrder.{RunOrder}
+use Rattle.cli_words.specs.declared.error.WordsErr.{WordsErr}
+use Rattle.cli_words.specs.declared.error.WordsErr.TheVariants as words
+use Rattle.page.specs.declared.refusal.Refusal.{Refusal}
+use Rattle.page.specs.declared.refusal.Refusal.TheVariants as refusal
+use Rattle.record_log.specs.Frames.{Fault, reading}
+use Rattle.artifact_store.specs.declared.error.OpenErr.{OpenErr}
+use Rattle.artifact_store.specs.declared.error.OpenErr.TheVariants as opening
+use Rattle.runner.specs.declared.error.RunErr.{RunErr}
+use Rattle.runner.specs.declared.error.RunErr.TheVariants as run
+use Rattle.turbo_app.specs.declared.answer.Answer.{Answer}
+use Rattle.turbo_app.specs.declared.answer.Answer.TheVariants.{TreeFault, StoreFault, StartFault, SinkFault}
+use Rattle.turbo_app.specs.declared.answer.Answer.TheVariants as answer
+use Rattle.turbo_app.specs.Asking.{AsksFor, store_refusal}
+
+-- the plan, or the reason why there is none; a failure of the tree and want of memory say nothing
+abbrev pub AsksAs : RunOrder → List (List ℕ × List ℕ) → FileMap → Result Plan NoPlan → Type 0
+AsksAs order env files (Ok plan) = AsksFor order env files (Ok plan)
+AsksAs order env files (Err (Refused reason)) = AsksFor order env files (Err reason)
+AsksAs order env files (Err Failed) = Unit {0}
+AsksAs order env files (Err OutOfMemory) = Unit {0}
+
+abbrev pub is_failed : NoPlan → Bool
+is_failed (Refused reason) = false
+is_failed Failed = true
+is_failed OutOfMemory = false
+
+-- `Failed` comes only where the count of faults rose, and every other answer leaves it as it is
+abbrev pub HasCause : {T : Type 0} → ℕ → ℕ → Result T NoPlan → Type 0
+HasCause before now result = Counts is_failed before now result
+
+-- ---- a run
+
+-- what a run that stopped answers
+abbrev pub answer_of : RunErr → Answer
+answer_of run.TreeFault = TreeFault
+answer_of run.StoreFault = StoreFault
+answer_of run.StartFault = StartFault
+answer_of run.SinkFault = SinkFault
+answer_of run.OutOfMemory = answer.OutOfMemory
+
+-- the bytes of the store are none, for this reason
+pub record IsNoStore (stored : List ℕ) (reason : Refusal) : Type 0 where
+  pub fault : Fault
+  pub reads : reading stored ≡ Err fault
+  pub is : reason ≡ store_refusal fault
+
+-- the refusal of a device that was not opened as a store
+abbrev pub IsStoreRefusal : OpenErr → Refusal → Type 0
+IsStoreRefusal opening.NotAStore reason = reason ≡ refusal.NotAStore
+IsStoreRefusal (opening.Damaged at) reason = reason ≡ refusal.Damaged at
+IsStoreRefusal opening.Failed reason = ⊥
+IsStoreRefusal opening.OutOfMemory reason = ⊥
+
+-- an error as a result
+abbrev pub raised : NoPlan → Result (Unit {0}) NoPlan
+raised stop = Err stop
+
+-- the refusal of words that are no order; want of memory is none
+pub record IsWordsRefusal (fault : WordsErr) (reason : Refusal) : Type 0 where
+  pub is : reason ≡ refusal.Words fault
+  pub known : fault ≢ words.OutOfMemory
