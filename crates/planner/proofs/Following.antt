@@ -85,7 +85,6 @@ nothing next x answer never = absurd never
 -- ---- the steps before a file is read
 
 module _ (contents : Contents) (order : RunOrder) (next : List ℕ → PlanList → Answer → Type 0) where
-
   abbrev AtPersistent : List ℕ → List Node → PlanList → Answer → Type 0
   AtPersistent selected nodes list answer = AfterPersistent (find (is_persistent contents.space.packages contents.setup) (ids_of nodes)) (next selected list) answer
 

@@ -101,4 +101,4 @@ Plans contents order env files answer =
     AfterOrder nodes (λ list.
     AfterPersistent (find (is_persistent contents.space.packages contents.setup) (ids_of nodes)) (
     AfterCollect contents files env (wanted_of (named (entry_tasks contents.space.packages contents.setup selected order.tasks)) order.args list) (λ listing end.
-        (plan : Plan) × (end ≡ Ok plan) × IsPlanOf contents.setup order env list listing plan))))) answer
+    (plan : Plan) × (end ≡ Ok plan) × IsPlanOf contents.setup order env list listing plan))))) answer

@@ -105,7 +105,14 @@ pub fn plan_run<T: Tree>(
         Ok(listing) => listing,
         Err(e) => return Err(e),
     };
-    match plan_of(alloc, &repository.config, order, env, prepared.list, listing) {
+    match plan_of(
+        alloc,
+        &repository.config,
+        order,
+        env,
+        prepared.list,
+        listing,
+    ) {
         Ok(plan) => Ok(plan),
         Err(_) => Err(PlannerErr::OutOfMemory),
     }

@@ -96,5 +96,5 @@ module _ (nodes : List Node) (plan : PlanList) (is : IsPlan nodes plan) where
   pub plan_few : length plan.ids ≤ length nodes
   plan_few =
       let most : length plan.ids ≤ length (ids_of nodes) = length-le_from_is_member id_equiv plan.ids (ids_of nodes) (distinct nodes [] plan.ids is.order.follow)
-          (λ q member. member_is (ids_of nodes) q ∙ passes (is_in_graph nodes) plan.ids q within (sym (member_is plan.ids q) ∙ member)) in
+      (λ q member. member_is (ids_of nodes) q ∙ passes (is_in_graph nodes) plan.ids q within (sym (member_is plan.ids q) ∙ member)) in
       omega (arith, most, length-map nodes (λ (node : Node). node.id))
