@@ -8,8 +8,6 @@ mod environments;
 #[cfg(test)]
 mod faults;
 #[cfg(test)]
-mod filters;
-#[cfg(test)]
 mod graphs;
 #[cfg(test)]
 mod inputs;
@@ -23,3 +21,5 @@ mod orders;
 mod refusals;
 #[cfg(test)]
 mod scene;
+#[cfg(test)]
+mod selections;

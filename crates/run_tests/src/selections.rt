@@ -33,7 +33,7 @@ fn taken(alloc: Global, repo: &mut Scene, words: &str) -> Result<String, Fail> {
 }
 
 #[test]
-fn filters(rt: HostRuntime) -> Result<(), Fail> {
+fn packages_of_filters(rt: HostRuntime) -> Result<(), Fail> {
     let alloc = rt.alloc();
     let table = [
         (
