@@ -1,92 +1,87 @@
--- Marking a task and its ancestors, from the highest place down.
-use Rattle.std.proofs.Common.{◌≡◌, MatchBool, ℕ, ◌<◌, ◌≤◌, ◌+◌, ◌==◌, Bool, true, false, ◌||◌, List, refl, sym, ap, ◌∙◌, arith, inl, inr}
-use Rattle.std.specs.List.{list_any, AllByRecursion}
+-- Finding a task and its ancestors, from the highest place down.
+use Rattle.std.proofs.Common.{◌≡◌, ℕ, ◌<◌, ◌≤◌, ◌==◌, Bool, true, ◌||◌, List, length, get_or, sym, ap, ◌∙◌, arith, inl, inr}
+use Rattle.std.specs.List.{AllByRecursion}
 use Rattle.std.specs.Cmp.{both_ways}
-use Rattle.std.proofs.lemmas.Bool.{cases_eq, or_cases, or_left, or_right, false≢true, eqb-true, eq-eqb}
+use Rattle.std.proofs.lemmas.Bool.{cases_eq, cases_lt, or_cases, or_left, or_right, false≢true, eqb-true}
+use Rattle.std.proofs.lemmas.List.{get_or_default}
+use Rattle.listing.specs.declared.part.Part.{Part}
 use Rattle.listing.specs.declared.part.Listing.{Listing}
-use Rattle.run_laws.specs.Ancestors.{part_at, is_above, IsLower}
+use Rattle.run_laws.specs.Ancestors.{part_at, blank, is_above, IsLower}
 use Rattle.run_laws.specs.Closures.{in_closure, IsClosed}
-use Rattle.run_laws.proofs.AncestorFacts.{reaches-closed, closure-closed}
+use Rattle.run_laws.proofs.AncestorFacts.{reaches-closed, reaches-lower, closure-closed}
 use Rattle.run_laws.proofs.ListFacts.{any_gives, all_members, all_weaker}
-use Rattle.closures.specs.Marks.{keeps, Follows}
+use Rattle.closures.specs.Places.{has, HasNoneBelow, IsLastBelow}
 
--- What is marked when the places from this one on were looked at: parts of the closure, the place itself, and the
--- dependencies of what is marked there.
-pub record Marked (l : Listing) (place left : ℕ) (marks : List Bool) : Type 0 where
-  pub sound : (j : ℕ) → keeps marks j ≡ true → in_closure l place j ≡ true
-  pub start : keeps marks place ≡ true
-  pub done : (y : ℕ) → left ≤ y → keeps marks y ≡ true → AllByRecursion (λ d. keeps marks d ≡ true) (part_at l y).deps
+-- What is kept when the places from this one on were looked at: parts of the closure, the place itself, and the
+-- dependencies of what is kept there.
+pub record Found (l : Listing) (place left : ℕ) (kept : ℕ → Bool) : Type 0 where
+  pub sound : (j : ℕ) → kept j ≡ true → in_closure l place j ≡ true
+  pub start : kept place ≡ true
+  pub done : (y : ℕ) → left ≤ y → kept y ≡ true → AllByRecursion (λ d. kept d ≡ true) (part_at l y).deps
 
--- at the end that is the closure
-pub all_marked : (l : Listing) (place : ℕ) (marks : List Bool) → Marked l place 0 marks → keeps marks ≡ in_closure l place
-all_marked l place marks m = λ k j. both_ways (keeps marks j) (in_closure l place j) (m.sound j) (back j) k
+-- where nothing is left below, that is the closure
+pub all_found : (l : Listing) (place left : ℕ) (kept : ℕ → Bool) → Found l place left kept → HasNoneBelow kept left → kept ≡ in_closure l place
+all_found l place left kept m none = λ k j. both_ways (kept j) (in_closure l place j) (m.sound j) (back j) k
   where
-    closed : IsClosed l (keeps marks)
-    closed y h = m.done y (omega arith) h
+    closed : IsClosed l kept
+    closed y h = elim (cases_lt y left) [ inl lt ↦ absurd (false≢true (sym (none y lt) ∙ h)) | inr le ↦ m.done y le h ]
 
-    back : (j : ℕ) → in_closure l place j ≡ true → keeps marks j ≡ true
+    back : (j : ℕ) → in_closure l place j ≡ true → kept j ≡ true
     back j h = elim (or_cases (j == place) (is_above l place j) h) [
-      | inl e ↦ ap (keeps marks) (eqb-true j place e) ∙ m.start
-      | inr r ↦ reaches-closed l (keeps marks) closed place place j m.start r
+      | inl e ↦ ap kept (eqb-true j place e) ∙ m.start
+      | inr r ↦ reaches-closed l kept closed place place j m.start r
     ]
 
--- ---- one place more
+-- the next place that is kept, and its dependencies
+module _ (l : Listing) (place left next : ℕ) (old new : ℕ → Bool) (low : IsLower l) (m : Found l place left old) (last : IsLastBelow old left next)
+    (more : (j : ℕ) → new j ≡ (has (part_at l next).deps j || old j)) where
+  grows : (j : ℕ) → old j ≡ true → new j ≡ true
+  grows j h = more j ∙ or_right (has (part_at l next).deps j) (old j) h
 
--- a place that is not marked
-pub passed : (l : Listing) (place left : ℕ) (marks : List Bool) → Marked l place (left + 1) marks → keeps marks left ≡ false → Marked l place left marks
-passed l place left marks m off = record {
-  sound = m.sound;
-  start = m.start;
-  done = λ y le h. elim (cases_eq y left) [
-    | inl e ↦ absurd (false≢true (sym off ∙ ap (keeps marks) (sym e) ∙ h))
-    | inr ne ↦ m.done y (omega (arith, le, ne)) h
-  ];
-}
-
-module _ (l : Listing) (place left : ℕ) (old new : List Bool) (low : IsLower l) (m : Marked l place (left + 1) old) (on : keeps old left ≡ true)
-    (more : (j : ℕ) → keeps new j ≡ (list_any (λ d. d == j) (part_at l left).deps || keeps old j)) where
-  grows : (j : ℕ) → keeps old j ≡ true → keeps new j ≡ true
-  grows j h = more j ∙ or_right (list_any (λ d. d == j) (part_at l left).deps) (keeps old j) h
-
-  in_it : (j : ℕ) → keeps new j ≡ true → in_closure l place j ≡ true
-  in_it j h = elim (or_cases (list_any (λ d. d == j) (part_at l left).deps) (keeps old j) (sym (more j) ∙ h)) [
+  in_it : (j : ℕ) → new j ≡ true → in_closure l place j ≡ true
+  in_it j h = elim (or_cases (has (part_at l next).deps j) (old j) (sym (more j) ∙ h)) [
     | inl t ↦ any_gives (λ d. in_closure l place d ≡ true) (λ d. d == j) (in_closure l place j ≡ true) (λ d k t. ap (in_closure l place) (sym (eqb-true d j t)) ∙ k)
-        (part_at l left).deps (closure-closed l place low left (m.sound left on)) t
+        (part_at l next).deps (closure-closed l place low next (m.sound next last.1)) t
     | inr t ↦ m.sound j t
   ]
 
-  below : (j : ℕ) → list_any (λ d. d == j) (part_at l left).deps ≡ true → j < left
-  below j t = any_gives (λ d. d < left) (λ d. d == j) (j < left) (λ d k t. let e = eqb-true d j t in omega (arith, k, e)) (part_at l left).deps (low left) t
+  below : (j : ℕ) → has (part_at l next).deps j ≡ true → j < next
+  below j t = any_gives (λ d. d < next) (λ d. d == j) (j < next) (λ d k t. let e = eqb-true d j t in omega (arith, k, e)) (part_at l next).deps (low next) t
 
-  here : AllByRecursion (λ d. keeps new d ≡ true) (part_at l left).deps
-  here = all_members (λ d. keeps new d ≡ true) (part_at l left).deps (λ d t. more d ∙ or_left (list_any (λ x. x == d) (part_at l left).deps) (keeps old d) t)
+  here : AllByRecursion (λ d. new d ≡ true) (part_at l next).deps
+  here = all_members (λ d. new d ≡ true) (part_at l next).deps (λ d t. more d ∙ or_left (has (part_at l next).deps d) (old d) t)
 
-  -- a place that is marked, and its dependencies
-  pub followed : Marked l place left new
+  later : (y : ℕ) → next < y → new y ≡ true → old y ≡ true
+  later y lt h = elim (or_cases (has (part_at l next).deps y) (old y) (sym (more y) ∙ h)) [
+    | inl t ↦ absurd (let k = below y t in omega (arith, k, lt))
+    | inr t ↦ t
+  ]
+
+  past : (y : ℕ) → next < y → old y ≡ true → left ≤ y
+  past y lt h = elim (cases_lt y left) [ inl k ↦ absurd (let n = last.2 y k h in omega (arith, n, lt)) | inr le ↦ le ]
+
+  pub followed : Found l place next new
   followed = record {
     sound = in_it;
     start = grows place m.start;
-    done = λ y le h. elim (cases_eq y left) [
+    done = λ y le h. elim (cases_eq y next) [
       | inl e ↦ rw e here
-      | inr ne ↦ elim (or_cases (list_any (λ d. d == y) (part_at l left).deps) (keeps old y) (sym (more y) ∙ h)) [
-        | inl t ↦ absurd (let k = below y t in omega (arith, k, le))
-        | inr t ↦ all_weaker (λ d. keeps old d ≡ true) (λ d. keeps new d ≡ true) grows (part_at l y).deps (m.done y (omega (arith, le, ne)) t)
-      ]
+      | inr ne ↦
+          let lt : next < y = omega (arith, le, ne) in
+          let was = later y lt h in
+          all_weaker (λ d. old d ≡ true) (λ d. new d ≡ true) grows (part_at l y).deps (m.done y (past y lt was) was)
     ];
   }
 
--- one place more, marked or not
-pub step : (l : Listing) (place left : ℕ) (old new : List Bool) → IsLower l → Marked l place (left + 1) old → Follows left (part_at l left).deps old new → Marked l place left new
-step l place left old new low m f = by (keeps old left) refl f
-  where
-    by : (b : Bool) → keeps old left ≡ b → MatchBool b ((j : ℕ) → keeps new j ≡ (list_any (λ d. d == j) (part_at l left).deps || keeps old j)) (new ≡ old) → Marked l place left new
-    by true e f = followed l place left old new low m e f
-    by false e f = rw f (passed l place left old m e)
+-- each place of the closure is one of a part
+pub within : (l : Listing) (place : ℕ) (kept : List ℕ) → IsLower l → place < length l.parts → has kept ≡ in_closure l place → AllByRecursion (λ k. k < length l.parts) kept
+within l place kept low lt is =
+    all_members (λ k. k < length l.parts) kept
+    (λ k h. elim (or_cases (k == place) (is_above l place k) (ap (λ t. t k) (sym is) ∙ h)) [
+      | inl e ↦ let same = eqb-true k place e in omega (arith, same, lt)
+      | inr r ↦ let less = reaches-lower l low place place k r in omega (arith, less, lt)
+    ])
 
--- what the place before the last stands at
-pub start_marked : (l : Listing) (place : ℕ) (marks : List Bool) → ((j : ℕ) → keeps marks j ≡ (place == j)) → Marked l place (place + 1) marks
-start_marked l place marks is = record {
-  sound = λ j h. or_left (j == place) (is_above l place j) (rw (eqb-true place j (sym (is j) ∙ h)) (eq-eqb j j refl));
-  start = is place ∙ eq-eqb place place refl;
-  done = λ y le h. absurd (let e = eqb-true place y (sym (is y) ∙ h) in omega (arith, le, e));
-}
+-- the part at a place, whatever stands past the end
+pub deps_at : (l : Listing) (parts : List Part) (place : ℕ) (d : Part) → parts ≡ l.parts → place < length l.parts → (get_or parts place d).deps ≡ (part_at l place).deps
+deps_at l parts place d same lt = ap (λ (ps : List Part). (get_or ps place d).deps) same ∙ ap (λ (p : Part). p.deps) (get_or_default l.parts place d blank lt)

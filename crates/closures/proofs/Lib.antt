@@ -1,3 +1,5 @@
 mod Descent
-mod Walks
+mod Lookup
 mod Named
+mod Ranks
+mod Sets

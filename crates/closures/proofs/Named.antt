@@ -5,7 +5,7 @@ use Rattle.std.proofs.lemmas.List.Folds.{list_any_more}
 use Rattle.rel_path.specs.Paths.{Path, path_cmp, path_eq, is_among}
 use Rattle.rel_path.proofs.PathLaws.{path_ties}
 
-turn : (k a b : Bool) → cond k true (a || b) ≡ ((a || k) || b)
+pub turn : (k a b : Bool) → cond k true (a || b) ≡ ((a || k) || b)
 turn true true b = refl
 turn true false b = refl
 turn false true b = refl

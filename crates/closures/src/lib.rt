@@ -1,8 +1,8 @@
 //! The part of a listing that the result of one task depends on: the task and its ancestors.
 #![tactic(auto)]
 
-mod marking;
 mod naming;
+mod places;
 mod renumbering;
 mod task_closure;
 

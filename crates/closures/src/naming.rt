@@ -1,8 +1,9 @@
 // The files that parts name.
-ghost use Rattle.std.specs.Prelude.{◌≡◌, ℕ, List, filter, IfOk, OnOk, ◌||◌};
-ghost use Rattle.rel_path.specs.Paths.{is_among};
+ghost use Rattle.std.specs.Prelude.{◌≡◌, ◌++◌, ℕ, List, filter, IfOk, OnOk, ◌||◌};
+ghost use Rattle.rel_path.specs.Paths.{is_among, path_eq};
 ghost use Rattle.listing.specs.Memory.{OnlyMemory};
 ghost use Rattle.run_laws.specs.Closures.{names};
+ghost use Rattle.spawn_dev.specs.Orders.{AscendByPath};
 ghost use Rattle.closures.specs.Named.{has_path};
 
 use listing::{ListErr, Part};
@@ -33,34 +34,40 @@ fn inputs_of(alloc: Global, parts: &[Part]) -> Result<BTreeSet<RelPath>, ListErr
     Ok(set)
 }
 
-#[tactic(auto, unfolding(crate::specs::Named::has_path))]
-fn has_path(set: &BTreeSet<RelPath>, path: &RelPath) -> bool
-    ensures { result ≡ has_path set.now path.now }
+// Adds the file of this path, if there is one.
+fn add_file(found: &mut Files, files: &[(RelPath, Bytes)], path: &RelPath) -> Result<(), ListErr>
+    requires { AscendByPath files.now }
+    ensures added { OnOk result (found.new ≡ found.old ++ filter (λ f. path_eq path.now f.0) files.now) }
+    ensures memory { OnlyMemory result }
 {
-    set.contains(path)
+    if let Ok(place) = files.binary_search_by(|file| file.0.cmp(path)) {
+        let file = &files[place];
+        found.push((file.0.copy()?, file.1.copy()?))?;
+    }
+    Ok(())
 }
 
-// Those of the files whose paths are in the set.
+// Those of the files whose paths are in the set. It looks each path up, since the files may be many more.
 fn files_in(
     alloc: Global,
     files: &[(RelPath, Bytes)],
     named: &BTreeSet<RelPath>,
 ) -> Result<Files, ListErr>
-    ensures files { IfOk result (λ kept. kept ≡ filter (λ f. has_path named.now f.0) files.now) }
+    requires { AscendByPath files.now }
+    ensures files { IfOk result (λ found. found ≡ filter (λ f. has_path named.now f.0) files.now) }
     ensures memory { OnlyMemory result }
 {
-    let mut kept = Files::new(alloc);
-    for file in files {
-        if has_path(named, &file.0) {
-            kept.push((file.0.copy()?, file.1.copy()?))?;
-        }
+    let mut found = Files::new(alloc);
+    for path in named {
+        add_file(&mut found, files, path)?;
     }
-    Ok(kept)
+    Ok(found)
 }
 
-/// Those of the files that one of the parts names.
+/// Those of the files that one of the parts names. They ascend by path.
 pub fn files_of(alloc: Global, files: &[(RelPath, Bytes)], parts: &[Part]) -> Result<Files, ListErr>
-    ensures files { IfOk result (λ kept. kept ≡ filter (λ f. names parts.now f.0) files.now) }
+    requires { AscendByPath files.now }
+    ensures files { IfOk result (λ found. found ≡ filter (λ f. names parts.now f.0) files.now) }
     ensures memory { OnlyMemory result }
 {
     let named = inputs_of(alloc, parts)?;

@@ -1,15 +1,17 @@
 -- The page as it comes.
-use Rattle.std.proofs.Common.{◌≡◌, ◌≢◌, ℕ, ◌+◌, ◌<◌, ◌≤◌, Bool, false, List, [], ◌++◌, cond, length, take, refl, sym, ap, ◌∙◌, arith, Option, Some, None, append_assoc, append-nil, add-one}
+use Rattle.std.proofs.Common.{◌≡◌, ◌≢◌, ℕ, ◌+◌, ◌<◌, ◌≤◌, Bool, false, List, [], ◌++◌, cond, length, take, refl, sym, ap, ◌∙◌, arith, inl, Option, Some, None, append_assoc, append-nil, add-one}
 use Rattle.std.proofs.lemmas.Bool.{ne_eqb, lt-ltb, le-ltb}
 use Rattle.std.proofs.lemmas.List.{append_cancel_left}
 use Rattle.page.specs.declared.blocks.Note.{Note}
 use Rattle.page.specs.declared.blocks.Note.TheVariants.{Stored}
+use Rattle.spawn_dev.specs.Effects.{no_effect}
 use Rattle.spawn_dev.specs.Spawn.{put_at}
+use Rattle.run_core.specs.declared.states.State.TheVariants.{Waiting}
 use Rattle.run_core.specs.Core.{states}
 use Rattle.run_core.specs.Machine.{is_done}
 use Rattle.run_plan.specs.declared.plan.Plan.{Plan}
 use Rattle.run_plan.specs.declared.report.Report.{Report}
-use Rattle.run_plan.specs.Answers.{IsTornPage}
+use Rattle.run_plan.specs.Answers.{IsInTurn, IsTornPage}
 use Rattle.run_plan.specs.Openings.{Opening, setting_of}
 use Rattle.run_plan.specs.Pages.{shows, block_at, blocks, text_behind, IsCut}
 use Rattle.run_plan.specs.Reports.{report_in, summary_by}
@@ -29,10 +31,22 @@ pub cut-as : (failed : Bool) (text other before first after : List ℕ) → text
 cut-as failed text other before first after same begins cut = record { count = cut.count; none = cut.none; put = cut.put ∙ (λ i. begins i ++ take cut.count (same i)) }
 
 -- nothing was put at all
-pub torn-none : (plan : Plan) (o : Opening) (failed : Bool) (written : List ℕ) → IsTornPage plan o failed written written
-torn-none plan o failed written =
+pub torn-none : (plan : Plan) (law : StoryLaw) (o : Opening) (failed : Bool) (written : List ℕ) → IsTornPage plan o failed written written
+torn-none plan law o failed written =
     let text = text_behind plan (setting_of plan o) (λ t. Stored) (λ t. false) 0 in
-    record { notes = λ t. Stored; reported = λ t. false; shown = 0; within = omega arith; cut = cut-as failed text text written (written ++ []) written refl (sym (append-nil written)) (not-cut failed text written written refl) }
+    let story = law.first plan o (λ t. no_effect) 0 (λ t. []) in
+    record {
+      mine = [];
+      states = λ t. Waiting;
+      at = record { moves = []; lead = refl; steps_are = refl };
+      room = 0;
+      notes = λ t. Stored;
+      noted = story.noted;
+      shown = 0;
+      within = omega arith;
+      in_turn = inl (λ u h. absurd (omega (arith, h)));
+      cut = cut-as failed text text written (written ++ []) written refl (sym (append-nil written)) (not-cut failed text written written refl);
+    }
 
 module _ (plan : Plan) (law : StoryLaw) (board : Board) (o : Opening) (now : Now) (stands : Stands plan o (with_board now board)) where
   abbrev notes : ℕ → Note
@@ -61,18 +75,33 @@ module _ (plan : Plan) (law : StoryLaw) (board : Board) (o : Opening) (now : Now
   behind-last : board.shown ≡ length plan.listing.parts → summary_by plan (report_in board.reports) ≡ text_behind plan (setting_of plan o) notes done board.shown
   behind-last e = rw (le-ltb board.shown (length plan.listing.parts) (omega (arith, e))) (law.summary plan o (with_board now board) stands)
 
+  torn : IsInTurn plan (states board.core) board.shown → board.shown ≤ length plan.listing.parts → (failed : Bool) → {before after : List ℕ}
+      → IsCut failed (text_behind plan (setting_of plan o) notes done board.shown) (before ++ blocks plan (setting_of plan o) notes done board.shown) after → IsTornPage plan o failed before after
+  torn in_turn within failed cut = record {
+    mine = stands.story.mine;
+    states = states board.core;
+    at = stands.story.at;
+    room = now.room;
+    notes = notes;
+    noted = stands.story.noted;
+    shown = board.shown;
+    within = within;
+    in_turn = in_turn;
+    cut = cut;
+  }
+
   pub tears-next : board.shown < length plan.listing.parts → (failed : Bool) (written after : List ℕ) → IsCut failed (next_text plan board) written after → TearsAt plan o (with_board now board) failed written after
-  tears-next h failed written after cut before page =
-      record { notes = notes; reported = done; shown = board.shown; within = omega (arith, h); cut = cut-as failed (next_text plan board) _ written _ after (behind-next h) page cut }
+  tears-next h failed written after cut before page in_turn =
+      torn in_turn (omega (arith, h)) failed (cut-as failed (next_text plan board) _ written _ after (behind-next h) page cut)
 
   pub tears-last : board.shown ≡ length plan.listing.parts → (failed : Bool) (written after : List ℕ) → IsCut failed (summary_by plan (report_in board.reports)) written after → TearsAt plan o (with_board now board) failed written after
-  tears-last e failed written after cut before page =
-      record { notes = notes; reported = done; shown = board.shown; within = omega (arith, e); cut = cut-as failed (summary_by plan (report_in board.reports)) _ written _ after (behind-last e) page cut }
+  tears-last e failed written after cut before page in_turn =
+      torn in_turn (omega (arith, e)) failed (cut-as failed (summary_by plan (report_in board.reports)) _ written _ after (behind-last e) page cut)
 
   pub tears-here : board.shown ≤ length plan.listing.parts → (failed : Bool) (written after : List ℕ) → after ≡ written → TearsAt plan o (with_board now board) failed written after
-  tears-here le failed written after same before page =
+  tears-here le failed written after same before page in_turn =
       let text = text_behind plan (setting_of plan o) notes done board.shown in
-      record { notes = notes; reported = done; shown = board.shown; within = le; cut = cut-as failed text text written _ after refl page (not-cut failed text written after same) }
+      torn in_turn le failed (cut-as failed text text written _ after refl page (not-cut failed text written after same))
 
 module _ (plan : Plan) (law : StoryLaw) (old new : Board) (core : new.core ≡ old.core) (reports : new.reports ≡ old.reports) (logs : log_in new.logs ≡ put_at (log_in old.logs) old.shown []) (shown : new.shown ≡ old.shown + 1) (o : Opening) (now : Now)
     (stands : Stands plan o (with_board now old)) where

@@ -16,7 +16,7 @@ use Rattle.run_laws.specs.Ancestors.{part_at, has_script}
 use Rattle.run_laws.specs.Closures.{in_closure}
 use Rattle.run_plan.specs.declared.plan.Plan.{Plan}
 use Rattle.run_plan.specs.Commands.{command_of}
-use Rattle.run_plan.specs.Answers.{IsTornPage}
+use Rattle.run_plan.specs.Answers.{IsInTurn, IsTornPage}
 use Rattle.run_plan.specs.Openings.{Opening, rules_of}
 use Rattle.run_plan.specs.declared.report.Report.{Report}
 use Rattle.run_plan.specs.Pages.{block_of}
@@ -114,4 +114,4 @@ next_text plan board = text_of plan board.shown (log_in board.logs board.shown) 
 
 -- where the run stops here, its page is torn
 abbrev pub TearsAt : Plan → Opening → Now → Bool → List ℕ → List ℕ → Type 0
-TearsAt plan o now output_failed written after = (before : List ℕ) → PageIs plan o now before written → IsTornPage plan o output_failed before after
+TearsAt plan o now output_failed written after = (before : List ℕ) → PageIs plan o now before written → IsInTurn plan now.states now.shown → IsTornPage plan o output_failed before after

@@ -1,7 +1,8 @@
 // The page of a run, as it comes.
 ghost use Rattle.std.specs.Prelude.{◌≡◌, ◌+◌, ◌<◌, ◌&&◌, ◌++◌, ℕ, List, length, nat_lt, OnOk, IfErr};
 ghost use Rattle.run_core.specs.Core.{states};
-ghost use Rattle.run_plan.specs.Openings.{Opening};
+ghost use Rattle.run_core.specs.Machine.{next};
+ghost use Rattle.run_plan.specs.Openings.{Opening, rules_of};
 ghost use Rattle.run_plan.specs.Pages.{IsCut};
 ghost use Rattle.run_plan.specs.Plans.{IsValidPlan};
 ghost use Rattle.run_plan.specs.Reports.{report_in, summary_by};
@@ -13,7 +14,7 @@ ghost use Rattle.runner.specs.Stops.{faults_of, StopsBy, is_sink_fault};
 use crate::RunErr;
 use crate::board::Board;
 use page::{PageErr, emit};
-use run_core::State;
+use run_core::{Next, State};
 use run_plan::{Plan, story_law};
 use std::alloc::Global;
 use tree_dev::Sink;
@@ -131,6 +132,7 @@ fn show_rest<K: Sink>(
 ) -> Result<(), RunErr>
     requires plan { IsValidPlan plan.now }
     requires board { IsBoard plan.now board.old }
+    requires over { next (rules_of plan.now) (states board.old.core) ≡ Next.Finished }
     ensures board { OnOk result (IsBoard plan.now board.new) }
     ensures core { OnOk result (board.new.core ≡ board.old.core) }
     ensures reports { OnOk result (board.new.reports ≡ board.old.reports) }
@@ -157,6 +159,7 @@ pub fn conclude<K: Sink>(
 ) -> Result<(), RunErr>
     requires plan { IsValidPlan plan.now }
     requires board { IsBoard plan.now board.old }
+    requires over { next (rules_of plan.now) (states board.old.core) ≡ Next.Finished }
     ensures board { OnOk result (IsBoard plan.now board.new) }
     ensures core { OnOk result (board.new.core ≡ board.old.core) }
     ensures reports { OnOk result (board.new.reports ≡ board.old.reports) }

@@ -1,6 +1,10 @@
-use Rattle.std.proofs.Common.{◌≡◌, ◌++◌, drop, filter}
-use Rattle.closures.specs.Named.{has_path}
+use Rattle.std.proofs.Common.{◌≡◌, ◌++◌, filter}
+use Rattle.std.specs.List.Sorted.{IsStrictlySortedBy}
+use Rattle.rel_path.specs.Paths.{is_among, path_cmp}
 use Rattle.closures.proofs.naming.files_in.Given as goal
 
-abbrev pub invariant-loop-file : goal.invariant-loop-file
-invariant-loop-file l = l.kept ++ filter (λ f. has_path l.named f.0) (drop l.file-index l.files) ≡ filter (λ f. has_path l.named f.0) l.files
+abbrev pub invariant-loop-path : goal.invariant-loop-path
+invariant-loop-path l = record {
+  up : IsStrictlySortedBy path_cmp l.path-iterator;
+  value : l.found ++ filter (λ f. is_among l.path-iterator f.0) l.files ≡ filter (λ f. is_among l.named.keys f.0) l.files;
+}

@@ -1,14 +1,15 @@
-use Rattle.std.proofs.Common.{◌∙◌, ap, arith}
-use Rattle.closures.proofs.Walks.{parts-are, deps_among, whole}
-use Rattle.closures.specs.Marks.{parts_from}
+use Rattle.std.proofs.Common.{◌≡◌, ◌++◌, [], append-nil, map, drop, sym, ap, ◌∙◌}
+use Rattle.std.proofs.lemmas.List.{drop_all}
+use Rattle.run_laws.specs.Ancestors.{part_at}
+use Rattle.run_laws.specs.Closures.{renumbered}
+use Rattle.closures.specs.Places.{has}
+use Rattle.closures.proofs.Ranks.{parts-are}
 use Rattle.closures.proofs.renumbering.parts_of.Goals as goal
-
-pub add_part-requires-clause-deps : goal.add_part-requires-clause-deps
-add_part-requires-clause-deps c =
-    deps_among c.args.listing.now c.args.kept.now c.loop-place.place c.part-item.result c.requires.lower c.requires.len
-    (rw (← c.as_slice-part-items.ensures) c.loop-place-test.true) (rw (← c.as_slice-part-items.ensures) c.part-item.is)
 
 pub returns-clause-parts : goal.returns-clause-parts
 returns-clause-parts c =
-    whole c.loop-place.parts c.args.kept.now c.loop-place.place c.as_slice-part-items.result.now (omega arith) c.loop-place.invariant
-    ∙ ap (parts_from c.args.kept.now 0) c.as_slice-part-items.ensures ∙ parts-are c.args.listing.now c.args.kept.now
+    let l = c.args.listing.now in
+    let kept = c.args.kept.now in
+    let none : drop c.loop-place.place-index kept ≡ [] = drop_all c.loop-place.place-index kept c.loop-place-test.false in
+    sym (append-nil c.loop-place.parts) ∙ ap (λ ks. c.loop-place.parts ++ map (λ k. renumbered (has kept) (part_at l k)) ks) (sym none) ∙ c.loop-place.invariant
+    ∙ parts-are l kept c.requires.ascend c.requires.inner

@@ -1,4 +1,4 @@
-use Rattle.std.proofs.Common.{◌≡◌, ◌+◌, ◌<◌, ℕ, Bool, true, false, cond, ap, arith, refl}
+use Rattle.std.proofs.Common.{◌≡◌, ◌+◌, ◌<◌, ℕ, Bool, true, false, cond, ap, arith, refl, inl}
 use Rattle.std.proofs.lemmas.Result.{err_from_is_err_and}
 use Rattle.run_core.specs.Core.{states}
 use Rattle.run_core.specs.Moves.{turns_left}
@@ -20,4 +20,4 @@ returns-clause-safe g c told store o stands = c.story_law.ensures.safe c.args.pl
 pub returns-in_err-more-clause-torn : goal.returns-in_err-more-clause-torn
 returns-in_err-more-clause-torn g c told store heard =
     let p = err_from_is_err_and c.from_residual.result c.from_residual.ensures.1 in
-    rw (p.1, p.2) (λ o stands before page. c.in_err-more.ensures.torn told store heard o (c.turns.invariant.stands told store o stands) before (c.turns.invariant.page told store heard o before stands page))
+    rw (p.1, p.2) (λ o stands before page in_turn. c.in_err-more.ensures.torn told store heard o (c.turns.invariant.stands told store o stands) before (c.turns.invariant.page told store heard o before stands page) (inl c.turns.invariant.settled))

@@ -1,4 +1,4 @@
-use Rattle.std.proofs.Common.{◌≡◌, ◌++◌, ◌∙◌, [], None, ap, sym, refl, append-nil, append_assoc, length, inl, inr}
+use Rattle.std.proofs.Common.{◌≡◌, ◌++◌, ◌∙◌, [], None, ap, sym, refl, append-nil, append_assoc, length, arith, inl, inr}
 use Rattle.std.proofs.lemmas.Bool.{cases_Bool}
 use Rattle.std.proofs.lemmas.Result.{err_from_is_err_and}
 use Rattle.run_core.specs.Core.{states}
@@ -108,7 +108,7 @@ pub returns-in_err-board-clause-torn : goal.returns-in_err-board-clause-torn
 returns-in_err-board-clause-torn g c told store heard ready =
     let o = opening_of g.W.Spawner.effect (g.W.Spawner.runs c.args.world.now) (g.W.Tree.state c.args.world.now).files (g.C.Cache.state c.args.cache.now).pairs in
     let p = err_from_is_err_and c.from_residual.result c.from_residual.ensures.1 in
-    rw (p.1, p.2) (torn-none c.args.plan.now o _ (g.K.Sink.written c.args.out.now))
+    rw (p.1, p.2) (torn-none c.args.plan.now c.story_law.ensures o _ (g.K.Sink.written c.args.out.now))
 
 pub returns-in_err-rounds-clause-torn : goal.returns-in_err-rounds-clause-torn
 returns-in_err-rounds-clause-torn g c told store heard ready =
@@ -121,7 +121,7 @@ returns-in_err-rounds-clause-torn g c told store heard ready =
     let before = g.K.Sink.written c.args.out.now in
     let page_first : before ≡ before ++ blocks_upto plan o new new.shown = sym (append-nil before) ∙ ap (λ k. before ++ blocks_upto plan o new k) (sym c.in_ok-board.ensures.shown) in
     let p = err_from_is_err_and c.from_residual-in_err-rounds.result c.from_residual-in_err-rounds.ensures.1 in
-    rw (p.1, p.2) (c.in_err-rounds.ensures.torn told store heard o first before page_first)
+    rw (p.1, p.2) (c.in_err-rounds.ensures.torn told store heard o first before page_first (inl (λ u h. absurd (omega (arith, h, c.in_ok-board.ensures.shown)))))
 
 pub returns-in_err-conclude-clause-torn : goal.returns-in_err-conclude-clause-torn
 returns-in_err-conclude-clause-torn g c told store heard ready =
@@ -137,4 +137,4 @@ returns-in_err-conclude-clause-torn g c told store heard ready =
     let stood = c.in_ok-rounds.ensures.stands told store o first in
     let page_last = c.in_ok-rounds.ensures.page told store heard o before first page_first in
     let p = err_from_is_err_and c.from_residual-in_err-conclude.result c.from_residual-in_err-conclude.ensures.1 in
-    rw (p.1, p.2) (c.in_err-conclude.ensures.torn heard o last stood before page_last)
+    rw (p.1, p.2) (c.in_err-conclude.ensures.torn heard o last stood before page_last (inr c.in_ok-rounds.ensures.over))

@@ -1,5 +1,7 @@
-use Rattle.std.proofs.Common.{◌≤◌, length, refl, ◌∙◌, arith}
+use Rattle.std.proofs.Common.{◌≤◌, length, refl, ◌∙◌, arith, inr}
 use Rattle.std.proofs.lemmas.Result.{err_from_is_err_and}
+use Rattle.run_core.specs.Core.{states}
+use Rattle.run_plan.specs.Answers.{IsInTurn}
 use Rattle.runner.proofs.PageFacts.{cut-as, tears-here, tears-last}
 use Rattle.runner.proofs.showing.conclude.Goals as goal
 
@@ -9,8 +11,9 @@ returns-in_err-summary-clause-torn g c told =
     let rest = c.in_ok-show_rest.ensures in
     let written = g.K.Sink.written c.show_rest.new.out in
     let le : board.shown ≤ length c.args.plan.now.listing.parts = omega (arith, rest.shown) in
+    let over : IsInTurn c.args.plan.now (states board.core) board.shown = inr (rw rest.core c.requires.over) in
     let p = err_from_is_err_and c.from_residual-in_err-summary.result c.from_residual-in_err-summary.ensures.1 in
-    rw (p.1, p.2) (λ o now stands before page. tears-here c.args.plan.now c.story_law.ensures board o now (rest.stands o now stands) le _ written written refl before (rest.page told o now before stands page))
+    rw (p.1, p.2) (λ o now stands before page in_turn. tears-here c.args.plan.now c.story_law.ensures board o now (rest.stands o now stands) le _ written written refl before (rest.page told o now before stands page) over)
 
 pub returns-in_err-put_text-clause-torn : goal.returns-in_err-put_text-clause-torn
 returns-in_err-put_text-clause-torn g c told =
@@ -19,5 +22,6 @@ returns-in_err-put_text-clause-torn g c told =
     let written = g.K.Sink.written c.show_rest.new.out in
     let after = g.K.Sink.written c.put_text.new.out in
     let cut = cut-as _ _ _ written written after (c.as_slice.ensures ∙ c.in_ok-summary.ensures.text) refl (c.in_err-put_text.ensures.torn told) in
+    let over : IsInTurn c.args.plan.now (states board.core) board.shown = inr (rw rest.core c.requires.over) in
     let p = err_from_is_err_and c.from_residual-in_err-put_text.result c.from_residual-in_err-put_text.ensures.1 in
-    rw (p.1, p.2) (λ o now stands before page. tears-last c.args.plan.now c.story_law.ensures board o now (rest.stands o now stands) rest.shown _ written after cut before (rest.page told o now before stands page))
+    rw (p.1, p.2) (λ o now stands before page in_turn. tears-last c.args.plan.now c.story_law.ensures board o now (rest.stands o now stands) rest.shown _ written after cut before (rest.page told o now before stands page) over)
