@@ -1,12 +1,11 @@
 -- How planning ends at a step.
-use Rattle.std.proofs.Common.{◌≡◌, ◌⊎◌, inl, inr, ℕ, List, refl, sym, subst, Ok, Err}
+use Rattle.std.proofs.Common.{◌≡◌, ◌⊎◌, inl, inr, ℕ, List, refl, sym, subst, Err}
 use Rattle.std.specs.Prelude.{Option, Some, None}
 use Rattle.rel_path.specs.Files.{FileMap}
 use Rattle.workspaces.specs.declared.member.Package.{Package}
 use Rattle.turbo_config.specs.Setup.{Setup}
 use Rattle.turbo_config.specs.declared.task_id.TaskId.{TaskId}
 use Rattle.filters.specs.declared.error.FilterErr.{FilterErr}
-use Rattle.filters.specs.declared.error.FilterErr.TheVariants as filter
 use Rattle.filters.specs.Selection.{words_fault}
 use Rattle.filters.specs.Steps.{MayRefuse}
 use Rattle.task_graph.specs.declared.error.GraphErr.{GraphErr}
@@ -22,7 +21,6 @@ use Rattle.page.specs.declared.refusal.Refusal.{Refusal}
 use Rattle.page.specs.declared.refusal.Refusal.TheVariants as refusal
 use Rattle.repository.specs.Reading.{Contents}
 use Rattle.repository.specs.Steps.{IsRefusal}
-use Rattle.planner.specs.declared.error.PlannerErr.{PlannerErr}
 use Rattle.planner.specs.Refusals.{filter_refusal, graph_refusal, collect_refusal}
 use Rattle.planner.specs.Plans.{Answer, AfterFilters, AfterFiltersOf, AfterGraph, AfterOrder, AfterPersistent, AfterCollect}
 use Rattle.planner.specs.Steps.{Ends, EndsOrFails, NoMore, error_of, collect_error}

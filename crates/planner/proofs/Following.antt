@@ -1,5 +1,5 @@
 -- How one step follows another.
-use Rattle.std.proofs.Common.{◌≡◌, inl, inr, ℕ, List, refl, sym, subst, Result, Ok, Err}
+use Rattle.std.proofs.Common.{◌≡◌, inl, inr, ℕ, List, sym, subst, Result, Ok, Err}
 use Rattle.std.specs.Prelude.{Option, Some, None, find}
 use Rattle.rel_path.specs.Files.{FileMap}
 use Rattle.cli_words.specs.declared.order.RunOrder.{RunOrder}
@@ -22,7 +22,7 @@ use Rattle.repository.specs.Reading.{Contents}
 use Rattle.planner.specs.declared.error.PlannerErr.{PlannerErr}
 use Rattle.planner.specs.declared.error.PlannerErr.TheVariants.{Refused, Failed, OutOfMemory}
 use Rattle.planner.specs.Plans.{Answer, AfterFilters, AfterFiltersOf, AfterGraph, AfterGraphOf, AfterOrder, AfterPersistent, AfterCollect, AfterCollectOf}
-use Rattle.planner.specs.Steps.{Ends, EndsOrFails, NoMore, Before, IsPrepared}
+use Rattle.planner.specs.Steps.{Ends, EndsOrFails, NoMore, Before}
 
 -- ---- what the one says the other says
 

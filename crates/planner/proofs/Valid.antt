@@ -1,5 +1,5 @@
 -- A plan of wanted tasks is valid.
-use Rattle.std.proofs.Common.{◌≡◌, ◌<◌, ◌≤◌, ◌^◌, ℕ, zero, suc, List, [], ◌∷◌, length, map, refl, sym, ap, ◌∙◌, subst, arith}
+use Rattle.std.proofs.Common.{◌≡◌, ◌<◌, ◌≤◌, ◌^◌, ℕ, zero, suc, List, [], ◌∷◌, length, map, sym, ap, ◌∙◌, subst, arith}
 use Rattle.std.specs.Prelude.{Option, Some, slice_index_or}
 use Rattle.serde_json.specs.Data.{Data}
 use Rattle.rel_path.specs.Paths.{Path}
@@ -7,7 +7,6 @@ use Rattle.rel_path.specs.Files.{FileMap}
 use Rattle.cli_words.specs.declared.order.RunOrder.{RunOrder}
 use Rattle.workspaces.specs.Space.{Space}
 use Rattle.turbo_config.specs.Setup.{Setup, task_def}
-use Rattle.turbo_config.specs.declared.entry.TaskDef.{TaskDef}
 use Rattle.turbo_config.specs.declared.task_id.TaskId.{TaskId}
 use Rattle.task_graph.specs.declared.plan.PlanList.{PlanList}
 use Rattle.listing.specs.declared.part.Part.{Part}

@@ -1,6 +1,6 @@
 -- The wanted tasks, by the plan order.
-use Rattle.std.proofs.Common.{◌≡◌, ◌≢◌, ◌&&◌, ◌||◌, ◌==◌, ◌+◌, ◌<◌, ◌≤◌, ℕ, zero, suc, Bool, true, false, not, cond, List, [], ◌∷◌, ◌++◌, length, get_or, take, map, refl, sym, ap, ◌∙◌, subst, arith, nat_lt}
-use Rattle.std.specs.Prelude.{Option, Some, None, is_some, find, zip, slice_index_or, bytes_eq}
+use Rattle.std.proofs.Common.{◌≡◌, ◌≢◌, ◌&&◌, ◌||◌, ◌==◌, ◌+◌, ◌<◌, ◌≤◌, ℕ, Bool, true, false, not, cond, List, [], ◌∷◌, ◌++◌, length, get_or, take, map, refl, sym, ap, ◌∙◌, subst, arith, nat_lt}
+use Rattle.std.specs.Prelude.{Option, Some, None, is_some, find, zip, slice_index_or}
 use Rattle.std.specs.List.{AllByRecursion, AllPairs}
 use Rattle.std.specs.List.Sorted.{IsStrictlySortedBy}
 use Rattle.std.specs.declared.cmp.Ordering.TheVariants.{Less}
@@ -15,16 +15,15 @@ use Rattle.workspaces.specs.declared.member.Package.{Package}
 use Rattle.workspaces.specs.Reach.{AreBelow, is_in}
 use Rattle.filters.specs.Selection.{AreSelectedBy, is_included, is_excluded}
 use Rattle.turbo_config.specs.Setup.{Setup, task_def}
-use Rattle.turbo_config.specs.declared.entry.TaskDef.{TaskDef}
 use Rattle.turbo_config.specs.declared.task_id.TaskId.{TaskId}
 use Rattle.task_graph.specs.declared.plan.PlanList.{PlanList}
 use Rattle.task_graph.specs.Ids.{has}
 use Rattle.task_graph.specs.Tasks.{package_named, has_def, is_task}
 use Rattle.spawn_dev.specs.Orders.{IsAscending}
-use Rattle.collect.specs.Tasks.{IsDefined, package_named as collect_named}
+use Rattle.collect.specs.Tasks.{IsDefined}
 use Rattle.collect.specs.declared.wanted.Wanted.{Wanted}
 use Rattle.collect.proofs.Lists.{get_zip, length_zip}
-use Rattle.planner.specs.Wanted.{args_for, wanted_at, wanted_of}
+use Rattle.planner.specs.Wanted.{wanted_at, wanted_of}
 use Rattle.planner.specs.Steps.{AreInOrder}
 
 and_first : (a b : Bool) → (a && b) ≡ true → a ≡ true

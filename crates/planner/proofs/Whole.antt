@@ -1,11 +1,10 @@
 -- What planning answers, by its steps.
-use Rattle.std.proofs.Common.{◌≡◌, ℕ, List, refl, sym, subst, Ok, Err}
+use Rattle.std.proofs.Common.{◌≡◌, ℕ, List, refl, subst, Ok, Err}
 use Rattle.rel_path.specs.Files.{FileMap}
 use Rattle.cli_words.specs.declared.order.RunOrder.{RunOrder}
 use Rattle.task_graph.specs.declared.plan.PlanList.{PlanList}
 use Rattle.task_graph.specs.Entries.{entry_tasks}
 use Rattle.listing.specs.declared.part.Listing.{Listing}
-use Rattle.collect.specs.declared.wanted.Wanted.{Wanted}
 use Rattle.collect.specs.Refusals.{Collects}
 use Rattle.run_plan.specs.declared.plan.Plan.{Plan}
 use Rattle.repository.specs.Reading.{Contents}

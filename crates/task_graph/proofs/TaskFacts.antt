@@ -1,8 +1,7 @@
 -- Each task of a graph is one of the repository.
-use Rattle.std.proofs.Common.{◌≡◌, ◌&&◌, ◌||◌, ◌⊎◌, inl, inr, ◌<◌, ℕ, zero, suc, Bool, true, false, cond, not, List, [], ◌∷◌, ◌++◌, length, map, refl, sym, ap, ◌∙◌, subst, arith, Result, Ok, Err}
+use Rattle.std.proofs.Common.{◌≡◌, inl, inr, ◌<◌, ℕ, zero, suc, Bool, true, false, cond, not, List, [], ◌∷◌, ◌++◌, length, map, refl, sym, ap, ◌∙◌, subst, arith, Result, Ok, Err}
 use Rattle.std.specs.Prelude.{Option, Some, None, is_some, filter, find, drop}
 use Rattle.std.specs.List.{AllByRecursion}
-use Rattle.std.proofs.lemmas.Bool.{false≢true}
 use Rattle.std.proofs.lemmas.Slice.Eq.{bytes_eq-Decides}
 use Rattle.rel_path.specs.Paths.{name_eq}
 use Rattle.turbo_config.specs.Names.{begins_caret}
@@ -22,7 +21,7 @@ use Rattle.task_graph.specs.Entries.{entry_tasks, word_tasks, is_unknown, and_mo
 use Rattle.task_graph.specs.Edges.{edges, upstream, needed_by, only, text_tasks, tasks_of, depends_on}
 use Rattle.task_graph.specs.Nodes.{ids_of}
 use Rattle.task_graph.specs.Graphs.{IsGraphFrom, MeansFrom, Means}
-use Rattle.task_graph.proofs.Ids.{id_total, from-has, has-from, or_left, or_right, and_first, and_second}
+use Rattle.task_graph.proofs.Ids.{id_total, from-has, has-from, and_first}
 use Rattle.task_graph.proofs.Order.{all_has, all_from, has-ascending}
 use Rattle.task_graph.proofs.Noded.{ids_are}
 

@@ -35,6 +35,10 @@ IfRefused StartFault P = ⊤
 IfRefused SinkFault P = ⊤
 IfRefused OutOfMemory P = ⊤
 
+-- nothing is answered but this refusal, a fault of a device or want of memory
+abbrev pub IsNothingBut : Refusal → Answer → Type 0
+IsNothingBut reason answer = IfDone answer (λ _. ⊥) × IfRefused answer (λ other. other ≡ reason)
+
 -- The counts of faults of the tree, of the store, of starting commands and of the sink.
 pub record FaultCounts : Type 0 where
   pub tree : ℕ

@@ -11,13 +11,7 @@ use Rattle.cli_words.specs.Orders.{order_of}
 use Rattle.page.specs.declared.refusal.Refusal.{Refusal}
 use Rattle.page.specs.declared.refusal.Refusal.TheVariants as refusal
 use Rattle.run_plan.specs.declared.plan.Plan.{Plan}
-use Rattle.repository.specs.Steps.{After}
-use Rattle.repository.specs.Reading.{Contents, Means}
-use Rattle.planner.specs.Plans.{Plans}
-
--- the plan that an order to run asks for, or the first reason why there is none: the repository's, and then that of the plan
-abbrev pub AsksFor : RunOrder → List (List ℕ × List ℕ) → FileMap → Result Plan Refusal → Type 0
-AsksFor order env files answer = (contents : Result Contents Refusal) × Means files contents × After contents (λ c. Plans c order env files) answer
+use Rattle.plan_laws.specs.Laws.{AsksFor}
 
 abbrev pub store_refusal : Fault → Refusal
 store_refusal NotAStore = refusal.NotAStore

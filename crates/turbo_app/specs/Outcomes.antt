@@ -16,7 +16,7 @@ use Rattle.run_laws.specs.Pairs.{IsGood}
 use Rattle.run_plan.specs.declared.plan.Plan.{Plan}
 use Rattle.run_plan.specs.Answers.{Ran, SameElsewhere}
 use Rattle.run_plan.specs.DryPages.{dry_page}
-use Rattle.turbo_app.specs.Asking.{AsksFor}
+use Rattle.plan_laws.specs.Laws.{AsksFor}
 
 -- What the devices hold at a moment: the files, the starts and ends of commands so far, the bytes of the store, and what was printed.
 pub record Moment : Type 0 where

@@ -18,7 +18,8 @@ use Rattle.runner.specs.declared.error.RunErr.TheVariants as run
 use Rattle.turbo_app.specs.declared.answer.Answer.{Answer}
 use Rattle.turbo_app.specs.declared.answer.Answer.TheVariants.{TreeFault, StoreFault, StartFault, SinkFault}
 use Rattle.turbo_app.specs.declared.answer.Answer.TheVariants as answer
-use Rattle.turbo_app.specs.Asking.{AsksFor, store_refusal}
+use Rattle.plan_laws.specs.Laws.{AsksFor}
+use Rattle.turbo_app.specs.Asking.{store_refusal}
 
 -- the plan, or the reason why there is none; a failure of the tree and want of memory say nothing
 abbrev pub AsksAs : RunOrder → List (List ℕ × List ℕ) → FileMap → Result Plan NoPlan → Type 0

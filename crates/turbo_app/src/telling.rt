@@ -1,8 +1,9 @@
 // What is printed in the place of a run.
-ghost use Rattle.std.specs.Prelude.{◌≡◌, ◌++◌, ◌≤◌, ℕ};
-ghost use Rattle.page.specs.Refusals.{line_of, refusal_text};
+ghost use Rattle.std.specs.Prelude.{◌≡◌, ◌++◌, ◌≤◌, ℕ, true};
+ghost use Rattle.page.specs.Refusals.{line_of, refusal_text, device_fault_line};
 ghost use Rattle.turbo_app.specs.Answers.{IfDone, IfRefused, HasCauseIn, counts_of};
 ghost use Rattle.turbo_app.specs.Outcomes.{usage};
+ghost use Rattle.turbo_app.specs.Stops.{IfFault, PrintsSome};
 
 use crate::Answer;
 use page::{DeviceFault, PageErr, Refusal, device_fault_text, emit, fault_text};
@@ -16,6 +17,7 @@ pub(crate) fn refuse<K: Sink>(alloc: Global, refusal: Refusal, out: &mut K) -> A
     ensures not_done { IfDone result (λ _. ⊥) }
     ensures refused { IfRefused result (λ answered. answered ≡ refusal) }
     ensures line { K.tells → IfRefused result (λ answered. K.written out.new ≡ K.written out.old ++ line_of (refusal_text answered)) }
+    ensures cut { K.tells → IfFault result (λ output_failed _. (output_failed ≡ true) × PrintsSome (line_of (refusal_text refusal)) (K.written out.old) (K.written out.new)) }
     ensures cause { (tree store start : ℕ) → HasCauseIn (counts_of tree store start (K.faults out.old)) (counts_of tree store start (K.faults out.new)) result }
 {
     let line = match fault_text(alloc, &refusal) {
@@ -33,6 +35,7 @@ pub(crate) fn refuse<K: Sink>(alloc: Global, refusal: Refusal, out: &mut K) -> A
 pub(crate) fn help<K: Sink>(alloc: Global, out: &mut K) -> Answer
     ensures done { K.tells → IfDone result (λ _. K.written out.new ≡ K.written out.old ++ usage) }
     ensures status { IfDone result (λ status. status ≡ 0) }
+    ensures cut { K.tells → IfFault result (λ output_failed _. (output_failed ≡ true) × PrintsSome usage (K.written out.old) (K.written out.new)) }
     ensures not_refused { IfRefused result (λ _. ⊥) }
     ensures cause { (tree store start : ℕ) → HasCauseIn (counts_of tree store start (K.faults out.old)) (counts_of tree store start (K.faults out.new)) result }
 {
@@ -45,7 +48,8 @@ pub(crate) fn help<K: Sink>(alloc: Global, out: &mut K) -> Answer
 
 /// Tries to print once which device failed. Whether that fails is not answered.
 pub(crate) fn tell<K: Sink>(alloc: Global, fault: DeviceFault, out: &mut K)
-    ensures { K.faults out.old ≤ K.faults out.new }
+    ensures told { K.tells → PrintsSome (device_fault_line fault) (K.written out.old) (K.written out.new) }
+    ensures later { K.faults out.old ≤ K.faults out.new }
 {
     let _ = emit(alloc, out, device_fault_text(fault).as_bytes());
 }

@@ -3,11 +3,12 @@ ghost use Rattle.std.specs.Prelude.{◌≡◌, ◌++◌, ◌<◌, ◌≤◌, ℕ
 ghost use Rattle.spawn_dev.specs.Spawn.{IsIdle};
 ghost use Rattle.cli_words.specs.declared.order.Order.TheVariants.{Run};
 ghost use Rattle.page.specs.Refusals.{line_of, refusal_text};
-ghost use Rattle.turbo_app.specs.Answers.{IfDone, IfRefused, HasCauseIn, IsNoFault, IsQuiet, counts_of};
+ghost use Rattle.turbo_app.specs.Answers.{IfDone, IfRefused, IsNothingBut, HasCauseIn, IsNoFault, IsQuiet, counts_of};
 ghost use Rattle.turbo_app.specs.Asking.{IsRefused, IsRefusedOrder};
 ghost use Rattle.rel_path.specs.Causes.{Counts};
 ghost use Rattle.turbo_app.specs.Steps.{is_failed, raised, IsWordsRefusal};
 ghost use Rattle.turbo_app.specs.Outcomes.{Did, RanOrder, MayChange, MayChangeBy, moment_of};
+ghost use Rattle.turbo_app.specs.Stops.{IfFault, StopsEarly, CutsRefusal, StoppedBy, Stopped};
 
 use crate::Answer;
 use crate::asking::{NoPlan, asked};
@@ -15,6 +16,7 @@ use crate::running::run_plan;
 use crate::telling::{help, refuse, tell};
 use cli_words::{Order, RunOrder, WordsErr, width_law};
 use page::{DeviceFault, Refusal};
+use plan_laws::order_law;
 use rel_path::Text;
 use spawn_dev::Spawner;
 use std::alloc::Global;
@@ -29,6 +31,7 @@ fn unplanned<K: Sink>(alloc: Global, stop: NoPlan, out: &mut K) -> Answer
     ensures not_done { IfDone result (λ _. ⊥) }
     ensures refused { IfRefused result (λ reason. stop ≡ NoPlan.Refused reason) }
     ensures line { K.tells → IfRefused result (λ reason. K.written out.new ≡ K.written out.old ++ line_of (refusal_text reason)) }
+    ensures stopped { K.tells → IfFault result (StopsEarly (λ reason. stop ≡ NoPlan.Refused reason) (K.written out.old) (K.written out.new)) }
     ensures cause { (before after store start : ℕ) → Counts is_failed before after (raised stop) → HasCauseIn (counts_of before store start (K.faults out.old)) (counts_of after store start (K.faults out.new)) result }
 {
     match stop {
@@ -46,6 +49,7 @@ fn refuse_words<K: Sink>(alloc: Global, fault: WordsErr, out: &mut K) -> Answer
     ensures not_done { IfDone result (λ _. ⊥) }
     ensures refused { IfRefused result (IsWordsRefusal fault) }
     ensures line { K.tells → IfRefused result (λ reason. K.written out.new ≡ K.written out.old ++ line_of (refusal_text reason)) }
+    ensures stopped { K.tells → IfFault result (λ output_failed _. CutsRefusal (IsWordsRefusal fault) output_failed (K.written out.old) (K.written out.new)) }
     ensures cause { (tree store start : ℕ) → HasCauseIn (counts_of tree store start (K.faults out.old)) (counts_of tree store start (K.faults out.new)) result }
 {
     if fault == WordsErr::OutOfMemory {
@@ -75,6 +79,8 @@ pub fn run_order<W: Spawner, S: StoreDevice, K: Sink>(
     ensures untouched { IfRefused result.0 (λ _. (W.state world.new).files ≡ (W.state world.old).files) }
     ensures same { S.tells → 9 < length (S.content store) → IfRefused result.0 (λ _. S.content result.1 ≡ S.content store) }
     ensures line { K.tells → IfRefused result.0 (λ reason. K.written out.new ≡ K.written out.old ++ line_of (refusal_text reason)) }
+    ensures stopped { W.tells → S.tells → K.tells → IfFault result.0 (StoppedBy (Ok (Run order.now)) (W.effect (W.runs world.old).book) env.now
+        (moment_of (W.state world.old).files (W.runs world.old).steps (S.content store) (K.written out.old)) (K.written out.new)) }
     ensures elsewhere { W.tells → MayChangeBy (Ok (Run order.now)) env.now (W.state world.old).files (W.state world.new).files }
     ensures cause { HasCauseIn (counts_of (W.state world.old).faults (S.store_faults store) (W.runs world.old).faults (K.faults out.old))
         (counts_of (W.state world.new).faults (S.store_faults result.1) (W.runs world.new).faults (K.faults out.new)) result.0 }
@@ -109,10 +115,13 @@ pub fn turbo<W: Spawner, S: StoreDevice, K: Sink>(
         (moment_of (W.state world.old).files (W.runs world.old).steps (S.content store) (K.written out.old))
         (moment_of (W.state world.new).files (W.runs world.new).steps (S.content result.1) (K.written out.new))) }
     ensures refused { W.tells → S.tells → IfRefused result.0 (IsRefused words.now env.now (W.state world.old).files (S.content store)) }
+    ensures only { W.tells → S.tells → (reason : _) → IsRefused words.now env.now (W.state world.old).files (S.content store) reason → IsNothingBut reason result.0 }
     ensures unstarted { IfRefused result.0 (λ _. W.runs world.new ≡ W.runs world.old) }
     ensures untouched { IfRefused result.0 (λ _. (W.state world.new).files ≡ (W.state world.old).files) }
     ensures same { S.tells → 9 < length (S.content store) → IfRefused result.0 (λ _. S.content result.1 ≡ S.content store) }
     ensures line { K.tells → IfRefused result.0 (λ reason. K.written out.new ≡ K.written out.old ++ line_of (refusal_text reason)) }
+    ensures stopped { W.tells → S.tells → K.tells → IfFault result.0 (Stopped words.now (W.effect (W.runs world.old).book) env.now
+        (moment_of (W.state world.old).files (W.runs world.old).steps (S.content store) (K.written out.old)) (K.written out.new)) }
     ensures elsewhere { W.tells → MayChange words.now env.now (W.state world.old).files (W.state world.new).files }
     ensures cause { HasCauseIn (counts_of (W.state world.old).faults (S.store_faults store) (W.runs world.old).faults (K.faults out.old))
         (counts_of (W.state world.new).faults (S.store_faults result.1) (W.runs world.new).faults (K.faults out.new)) result.0 }
@@ -120,6 +129,7 @@ pub fn turbo<W: Spawner, S: StoreDevice, K: Sink>(
         (counts_of (W.state world.new).faults (S.store_faults result.1) (W.runs world.new).faults (K.faults out.new)) → IsNoFault result.0 }
 {
     width_law();
+    order_law();
     match Order::read(alloc, words) {
         Ok(Order::Run(order)) => run_order(alloc, &order, env, world, store, out),
         Ok(Order::Help) => (help(alloc, out), store),

@@ -1,4 +1,4 @@
-use Rattle.std.proofs.Common.{◌≡◌, ◌∙◌, List, map, length, ap, subst, Ok}
+use Rattle.std.proofs.Common.{◌∙◌, map, length, ap, subst, Ok}
 use Rattle.std.specs.Option.{option_map}
 use Rattle.serde_json.specs.View.{view}
 use Rattle.task_graph.specs.Entries.{entry_tasks}

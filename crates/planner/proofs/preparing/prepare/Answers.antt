@@ -1,6 +1,4 @@
-use Rattle.std.proofs.Common.{◌≡◌, ◌∙◌, true, List, map, ap, arith}
-use Rattle.std.specs.List.{AllByRecursion}
-use Rattle.turbo_config.specs.declared.task_id.TaskId.{TaskId}
+use Rattle.std.proofs.Common.{◌∙◌, map, ap, arith}
 use Rattle.task_graph.specs.Entries.{entry_tasks}
 use Rattle.task_graph.specs.Tasks.{is_task}
 use Rattle.collect.specs.declared.wanted.Wanted.{Wanted}

@@ -1,4 +1,4 @@
-use Rattle.std.proofs.Common.{◌∙◌, ◌++◌, ◌∷◌, [], length, get_or, ap, sym, arith}
+use Rattle.std.proofs.Common.{◌∙◌, ◌++◌, ◌∷◌, [], length, get_or, ap, arith}
 use Rattle.planner.proofs.Wanting.{wanted_more, wanted_whole}
 use Rattle.planner.proofs.wanted.wanted_of.Goals as goal
 

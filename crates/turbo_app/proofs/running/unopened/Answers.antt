@@ -1,8 +1,10 @@
 -- Where a store is refused the device's count stayed.
-use Rattle.std.proofs.Common.{sym, subst}
+use Rattle.std.proofs.Common.{refl, sym, subst, inr}
 use Rattle.rel_path.specs.Causes.{Counts}
 use Rattle.artifact_store.specs.Answers.{is_fault, raised}
+use Rattle.page.specs.declared.refusal.Refusal.TheVariants.{NotAStore, Damaged}
 use Rattle.turbo_app.specs.Answers.{HasCauseIn, counts_of}
+use Rattle.turbo_app.proofs.Printed.{if_fault}
 use Rattle.turbo_app.proofs.running.unopened.Goals as goal
 
 pub returns-in-NotAStore-clause-cause : goal.returns-in-NotAStore-clause-cause
@@ -14,3 +16,11 @@ pub returns-in-Damaged-clause-cause : goal.returns-in-Damaged-clause-cause
 returns-in-Damaged-clause-cause g c = λ tree start before after counts.
     let known = subst (λ f. Counts {T = Unit {0}} is_fault before after (raised f)) c.in-Damaged.is counts in
     subst (λ n. HasCauseIn (counts_of tree before start (g.K.Sink.faults c.args.out.now)) (counts_of tree n start (g.K.Sink.faults c.refuse-in-Damaged.new.out)) c.refuse-in-Damaged.result) (sym known.counted) (c.refuse-in-Damaged.ensures.cause tree before start)
+
+pub returns-in-NotAStore-clause-stopped : goal.returns-in-NotAStore-clause-stopped
+returns-in-NotAStore-clause-stopped g c heard =
+    if_fault c.refuse.result _ _ (λ output_failed line cut. inr (cut.0, NotAStore, rw c.in-NotAStore.is refl, cut.1)) (c.refuse.ensures.cut heard)
+
+pub returns-in-Damaged-clause-stopped : goal.returns-in-Damaged-clause-stopped
+returns-in-Damaged-clause-stopped g c heard =
+    if_fault c.refuse-in-Damaged.result _ _ (λ output_failed line cut. inr (cut.0, Damaged c.in-Damaged.at, rw c.in-Damaged.is refl, cut.1)) (c.refuse-in-Damaged.ensures.cut heard)

@@ -1,0 +1,12 @@
+mod Ascending
+mod Walking
+mod Least
+mod Installed
+mod Places
+mod Selected
+mod Pairing
+mod Collected
+mod Cycling
+mod Read
+mod Planned
+mod Ordered
