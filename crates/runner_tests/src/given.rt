@@ -70,7 +70,7 @@ pub fn world(
     ends: &[u32],
     fails: &[u64],
 ) -> Result<MemWorld, Fail> {
-    let mut files = inputs(alloc)?;
+    let mut files = inputs(alloc, false)?;
     for (path, text) in more {
         let bytes = Bytes::read(alloc, text.as_bytes())?;
         files.push((RelPath::read(alloc, path)?, bytes))?;
@@ -101,13 +101,19 @@ pub fn store(alloc: Global) -> Result<Store<MemStore>, Fail> {
     }
 }
 
+/// These bytes as a text.
+pub fn text_of(alloc: Global, bytes: &[u8]) -> Result<String, Fail> {
+    match str::from_utf8(bytes) {
+        Ok(text) => Ok(String::from_str(alloc, text)?),
+        Err(_) => Err(Fail::new("no text")),
+    }
+}
+
 // What was printed, without the digits of the fingerprints.
 fn page(alloc: Global, outcome: &Outcome) -> Result<String, Fail> {
-    let Ok(text) = str::from_utf8(outcome.page.as_slice()) else {
-        return Err(Fail::new("no text"));
-    };
+    let text = text_of(alloc, outcome.page.as_slice())?;
     let mut page = String::new(alloc);
-    for line in text.lines() {
+    for line in text.as_str().lines() {
         let shown = match line.split_once(" executing ") {
             Some((front, _)) => front,
             None => match line.split_once(" replaying logs ") {

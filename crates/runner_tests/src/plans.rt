@@ -20,6 +20,8 @@ pub struct Kind {
     pub shares: bool,
     pub b_on_a: bool,
     pub c_on_b: bool,
+    /// The input of b has the bytes of that of a.
+    pub twins: bool,
     pub cache: bool,
     pub show: LogMode,
     pub width: u32,
@@ -34,6 +36,7 @@ pub const CHAIN: Kind = Kind {
     shares: false,
     b_on_a: true,
     c_on_b: true,
+    twins: false,
     cache: true,
     show: LogMode::Full,
     width: 1,
@@ -48,6 +51,7 @@ pub const APART: Kind = Kind {
     shares: false,
     b_on_a: false,
     c_on_b: false,
+    twins: false,
     cache: true,
     show: LogMode::Full,
     width: 3,
@@ -148,13 +152,20 @@ fn deps_of(alloc: Global, on: bool, place: u32) -> Result<Places, Fail>
     Ok(deps)
 }
 
+fn b_text(twins: bool) -> &'static str
+    ensures { result.now ≡ if twins then codes "1" else codes "2" }
+{
+    if twins { "1" } else { "2" }
+}
+
 /// The input files.
-pub fn inputs(alloc: Global) -> Result<Files, Fail>
-    ensures { IfOk result (λ files. files ≡ simple_files (codes "1") (codes "2") (codes "3")) }
+pub fn inputs(alloc: Global, twins: bool) -> Result<Files, Fail>
+    ensures { IfOk result (λ files. files ≡ simple_files (codes "1") (if twins then codes "1" else codes "2") (codes "3")) }
 {
     let mut files = Files::new(alloc);
+    let b_bytes = Bytes::read(alloc, b_text(twins).as_bytes())?;
     files.push((input_of(alloc, "a")?, Bytes::read(alloc, b"1")?))?;
-    files.push((input_of(alloc, "b")?, Bytes::read(alloc, b"2")?))?;
+    files.push((input_of(alloc, "b")?, b_bytes))?;
     files.push((input_of(alloc, "c")?, Bytes::read(alloc, b"3")?))?;
     Ok(files)
 }
@@ -165,8 +176,9 @@ fn listing_of(
     a_others: GlobLists,
     b_on_a: bool,
     c_on_b: bool,
+    twins: bool,
 ) -> Result<Listing, Fail>
-    ensures { IfOk result (λ listing. listing ≡ simple_listing (record { c_scripts = c_scripts; a_others = a_others; b_on_a = b_on_a; c_on_b = c_on_b }) (codes "1") (codes "2") (codes "3")) }
+    ensures { IfOk result (λ listing. listing ≡ simple_listing (record { c_scripts = c_scripts; a_others = a_others; b_on_a = b_on_a; c_on_b = c_on_b }) (codes "1") (if twins then codes "1" else codes "2") (codes "3")) }
 {
     let mut parts = Parts::new(alloc);
     let a_scripts = one_text(alloc, "make")?;
@@ -177,7 +189,7 @@ fn listing_of(
     parts.push(part(alloc, "b", b_scripts, GlobLists::new(alloc), b_deps)?)?;
     parts.push(part(alloc, "c", c_scripts, GlobLists::new(alloc), c_deps)?)?;
     Ok(Listing {
-        files: inputs(alloc)?,
+        files: inputs(alloc, twins)?,
         parts,
     })
 }
@@ -242,14 +254,21 @@ fn given(alloc: Global) -> Result<PairLists, Fail>
 /// The plan of this kind.
 pub fn plan_of(alloc: Global, kind: Kind) -> Result<Plan, Fail>
     ensures valid { IfOk result IsValidPlan }
-    ensures files { IfOk result (λ plan. plan.listing.files ≡ simple_files (codes "1") (codes "2") (codes "3")) }
+    ensures files { IfOk result (λ plan. plan.listing.files ≡ simple_files (codes "1") (if kind.twins then codes "1" else codes "2") (codes "3")) }
 {
     if kind.width == 0 || 1024 < kind.width {
         return Err(Fail::new("no width"));
     }
     let c_scripts = scripts_of(alloc, kind.has_c)?;
     let a_others = others_of(alloc, kind.shares)?;
-    let listing = listing_of(alloc, c_scripts, a_others, kind.b_on_a, kind.c_on_b)?;
+    let listing = listing_of(
+        alloc,
+        c_scripts,
+        a_others,
+        kind.b_on_a,
+        kind.c_on_b,
+        kind.twins,
+    )?;
     Ok(Plan {
         ids: ids(alloc)?,
         defs: defs(alloc, kind.cache, kind.show)?,

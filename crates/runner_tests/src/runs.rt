@@ -6,7 +6,7 @@ ghost use Rattle.rel_path.specs.Files.{file_at};
 use crate::plans::{Kind, plan_of};
 use artifact_store::Store;
 use rel_path::{Bytes, RelPath};
-use runner::{RunErr, run};
+use runner::{RunErr, dry, run};
 use spawn_dev::{MemWorld, Spawner};
 use std::alloc::Global;
 use std::test::Fail;
@@ -64,4 +64,21 @@ pub fn ran<S: StoreDevice>(
         page: Bytes::read(alloc, out.written())?,
         idle: world.is_idle(),
     })
+}
+
+/// What a dry run of a plan of this kind prints, where it comes to its end.
+pub fn dried<S: StoreDevice>(
+    alloc: Global,
+    kind: Kind,
+    cache: &mut Store<S>,
+) -> Result<Bytes, Fail> {
+    let plan = plan_of(alloc, kind)?;
+    if !cache.whole() {
+        return Err(Fail::new("not ready"));
+    }
+    let mut out = MemSink::new(alloc, Vec::new(alloc));
+    match dry(alloc, &plan, cache, &mut out) {
+        Ok(()) => Ok(Bytes::read(alloc, out.written())?),
+        Err(_) => Err(Fail::new("a fault")),
+    }
 }
