@@ -1,2 +1,3 @@
 mod Carry
 mod Search
+mod Fingerprints

@@ -1,4 +1,5 @@
 pub mod Pairs
+pub mod Prints
 pub mod Answers
 pub mod Store
 pub mod Laws

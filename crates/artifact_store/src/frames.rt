@@ -1,7 +1,8 @@
-// The frames of a store as pairs.
+// The frames of a store as pairs, and the fingerprints of their keys.
 ghost use Rattle.std.specs.Prelude.{◌≡◌, ◌⊎◌, ◌<◌, ◌≤◌, ◌++◌, ◌∷◌, [], List, ℕ, IsTrue, IfOk, IfErr, IfSome, OnOk};
 ghost use Rattle.rel_path.specs.Causes.{Counts};
 ghost use Rattle.store_dev.specs.Device.{LeavesOnly, OnlyReads};
+ghost use Rattle.sha2.specs.Sha256.{sha256};
 ghost use Rattle.codes.specs.Views.{found_as};
 ghost use Rattle.record_log.specs.Kinds.{room_for};
 ghost use Rattle.record_log.specs.Frames.{IsAt, IsBeforeOrAfter};
@@ -20,6 +21,7 @@ ghost use Rattle.artifact_store.specs.Answers.{WholeAfter};
 use cache_api::{Artifact, CacheErr, owns_all};
 use globs::OutSet;
 use record_log::{Frame, Log, LogErr};
+use sha2::{Digest, Sha256};
 use std::alloc::Global;
 use store_dev::StoreDevice;
 
@@ -46,6 +48,13 @@ pub(crate) fn frame_at<S: StoreDevice>(
         Err(LogErr::Failed) => Err(CacheErr::Failed),
         Err(_) => Err(CacheErr::OutOfMemory),
     }
+}
+
+/// The fingerprint of a key: its SHA-256 (FIPS 180-4).
+pub(crate) fn print_of(key: &[u8]) -> [u8; 32]
+    ensures { result ≡ sha256 key.now }
+{
+    Sha256::digest(key)
 }
 
 /// What the pair of a frame gives to a task: the artifact that its value is, where its key is the whole of that key and
@@ -102,6 +111,7 @@ pub(crate) fn append<S: StoreDevice>(
     requires fits { room_for (frame_for (key.now, value.now)) ≤ room_of log.old }
     ensures frames { S.tells → OnOk result (frames_in log.new ≡ frames_in log.old ++ frame_for (key.now, value.now) ∷ []) }
     ensures pairs { S.tells → PairsAfter result (pairs_in (frames_in log.old)) (key.now, value.now) (pairs_in (frames_in log.new)) }
+    ensures count { count_of log.old ≤ count_of log.new }
     ensures whole { WholeAfter result (is_whole log.old) (is_whole log.new) }
     ensures room { room_of log.new ≤ room_of log.old }
     ensures images { S.tells → LeavesOnly S.moment S.images_since (device_of log.old) (device_of log.new) (IsBeforeOrAfter (frames_in log.old) (frame_for (key.now, value.now))) }

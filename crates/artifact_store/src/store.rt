@@ -2,13 +2,16 @@
 ghost use Rattle.std.specs.Prelude.{◌≡◌, ◌<◌, ◌≤◌, ◌++◌, ◌∷◌, [], List, ℕ, Some, IsTrue, IfOk, IfErr, IfSome, IsErrOf, OnOk, length};
 ghost use Rattle.rel_path.specs.Causes.{Counts};
 ghost use Rattle.store_dev.specs.Device.{LeavesOnly};
+ghost use Rattle.record_log.specs.Log.{frames_in, count_of, is_whole};
+ghost use Rattle.artifact_store.specs.Pairs.{pairs_in};
+ghost use Rattle.artifact_store.specs.Prints.{AreFirst};
 
 use crate::OpenErr;
 use crate::error::open_err;
-use crate::frames::{append, frame_at, given, need_for};
+use crate::frames::{append, frame_at, given, need_for, print_of};
 use cache_api::{Artifact, Cache, CacheErr};
 use globs::OutSet;
-use record_log::{Log, Unopened};
+use record_log::{Frame, Log, Unopened};
 use std::alloc::Global;
 use store_dev::StoreDevice;
 
@@ -16,13 +19,23 @@ use store_dev::StoreDevice;
 #[derive(Drop)]
 pub struct Store<S: StoreDevice> {
     log: Log<S>,
+    // The fingerprints of the keys of the first frames, as many as look-ups have read, so that the next one reads of these
+    // only those that may have its key.
+    prints: Vec<[u8; 32]>,
+    ghost few: { length prints.items ≤ count_of log },
+    ghost told: { S.tells → IsTrue (is_whole log) → AreFirst prints.items (pairs_in (frames_in log)) },
 }
 
 impl<S: StoreDevice> Store<S> {
-    ghost use Rattle.record_log.specs.Frames.{reading, IsOpenedAs};
+    ghost use Rattle.store_dev.specs.Device.{OnlyReads};
+    ghost use Rattle.record_log.specs.Log.{room_of};
+    ghost use Rattle.record_log.specs.Frames.{reading, IsAt, IsOpenedAs};
+    ghost use Rattle.record_log.specs.Answers.{entry_of};
+    ghost use Rattle.cache_api.specs.Cache.{is_fault as is_find_fault, IsFindErr};
     ghost use Rattle.artifact_store.specs.Pairs.{stands_for, LeftOf, IsOneOf};
     ghost use Rattle.artifact_store.specs.Answers.{IsFaultOf, is_fault, raised};
-    ghost use Rattle.artifact_store.specs.Store.{device_of, state_of};
+    ghost use Rattle.artifact_store.specs.Store.{device_of, frames_of, state_of};
+    ghost use Rattle.artifact_store.specs.Prints.{HasOther};
 
     /// Opens a device as a store, whose pairs are those that the device holds. At most nine bytes are an empty store,
     /// which is then written. What is no store is handed back as it was.
@@ -40,7 +53,10 @@ impl<S: StoreDevice> Store<S> {
         ensures cause_err { IfErr result (λ u. Counts is_fault (S.store_faults store) (S.store_faults u.store) (raised u.fault)) }
     {
         match Log::open(alloc, store) {
-            Ok(log) => Ok(Store { log }),
+            Ok(log) => Ok(Store {
+                log,
+                prints: Vec::new(alloc),
+            }),
             Err(Unopened { fault, store }) => Err(Unopened {
                 fault: open_err(fault),
                 store,
@@ -62,6 +78,34 @@ impl<S: StoreDevice> Store<S> {
         ensures { result ≡ (state_of self.now).whole }
     {
         self.log.whole()
+    }
+
+    /// Whether the frame with that number is known to have another key than any with this fingerprint.
+    fn has_other(&self, number: u64, print: &[u8; 32]) -> bool
+        ensures { S.tells → IsTrue (state_of self.now).whole → IsTrue result → HasOther (state_of self.now).pairs number print.now }
+    {
+        match self.prints.get(number as usize) {
+            Some(known) => known != print,
+            None => false,
+        }
+    }
+
+    /// The frame with that number. The fingerprint of its key is kept, where it is the first that is not known.
+    fn read(&mut self, alloc: Global, number: u64) -> Result<Frame, CacheErr>
+        requires { number < count_of self.old.log }
+        ensures frame { S.tells → IfOk result (λ f. IsAt (frames_of self.old) number (entry_of f)) }
+        ensures reads { OnlyReads S.content S.images S.moment S.images_since (device_of self.old) (device_of self.new) }
+        ensures whole { is_whole self.new.log ≡ is_whole self.old.log }
+        ensures count { count_of self.new.log ≡ count_of self.old.log }
+        ensures room { room_of self.new.log ≡ room_of self.old.log }
+        ensures answers { IfErr result IsFindErr }
+        ensures cause { Counts is_find_fault (S.store_faults (device_of self.old)) (S.store_faults (device_of self.new)) result }
+    {
+        let frame = frame_at(&mut self.log, alloc, number)?;
+        if number == self.prints.len() as u64 {
+            self.prints.push(print_of(frame.key.as_slice()))?;
+        }
+        Ok(frame)
     }
 }
 
@@ -93,7 +137,9 @@ impl<S: StoreDevice> Cache for Store<S> {
 
     ghost at_rest = { λ s left told whole (c, was, is). is ∙ images_stand (s.log.kept whole told) c (S.only_now (device_of s) c was) };
 
-    /// It goes over the frames from the front, and holds one of them at a time.
+    /// It goes over the frames from the front, and holds one of them at a time. It reads those that no look-up has read,
+    /// and of the others those whose keys have the fingerprint of this one. The keys themselves are compared then, so that
+    /// an equal fingerprint never counts as an equal key.
     fn find(
         &mut self,
         alloc: Global,
@@ -111,9 +157,13 @@ impl<S: StoreDevice> Cache for Store<S> {
         ensures answers { IfErr result IsFindErr }
         ensures cause { Counts is_fault (state_of self.old).faults (state_of self.new).faults result }
     {
+        let print = print_of(key);
         let mut found = None;
         for number in 0..self.log.frames() {
-            let frame = frame_at(&mut self.log, alloc, number)?;
+            if self.has_other(number, &print) {
+                continue;
+            }
+            let frame = self.read(alloc, number)?;
             if let Some(artifact) = given(alloc, &frame, key, outs)? {
                 found = Some(artifact);
             }

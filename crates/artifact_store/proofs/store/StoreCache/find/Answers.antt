@@ -3,7 +3,7 @@ use Rattle.std.specs.Prelude.{IfSome, IsTrue}
 use Rattle.store_dev.specs.Moments.{reads_both}
 use Rattle.codes.specs.Views.{found_as}
 use Rattle.record_log.specs.Frames.{frames_of, IsAt}
-use Rattle.record_log.specs.Log.{frames_in}
+use Rattle.record_log.specs.Log.{frames_in, is_whole}
 use Rattle.record_log.specs.Answers.{entry_of}
 use Rattle.cache_api.specs.declared.artifact.Artifact.{Artifact as Held}
 use Rattle.cache_api.specs.Artifacts.{Artifact, artifact, ascends}
@@ -13,6 +13,8 @@ use Rattle.globs.specs.OwnedFiles.{owns_all}
 use Rattle.cache_api.specs.Pairs.{Pair}
 use Rattle.artifact_store.specs.Pairs.{pair_of, pairs_in}
 use Rattle.artifact_store.specs.Laws.{images_stand}
+use Rattle.artifact_store.specs.Prints.{HasOther}
+use Rattle.artifact_store.proofs.Fingerprints.{found_skip}
 use Rattle.artifact_store.proofs.Carry.{store_reads}
 use Rattle.artifact_store.proofs.Search.{length-pairs, pair_at, found_step, found_end}
 use Rattle.artifact_store.proofs.store.StoreCache.find.Goals as goal
@@ -22,15 +24,15 @@ pub returns-in_err-frame-clause-left : goal.returns-in_err-frame-clause-left
 returns-in_err-frame-clause-left g c told =
     let s = g.S.StoreDevice in
     let store = c.args.self.now in
-    let reads = reads_both s.content s.images s.moment s.images_since store.log.device c.loop-number.self.log.device c.frame_at.new.log.device c.loop-number.invariant.reads c.frame_at.ensures.reads in
-    store_reads s.content s.images s.moment s.images_since (λ x. x.log.device) store (record { log = c.frame_at.new.log }) (Some (pairs_in (frames_in store.log))) reads (g.met.S.StoreDevice.only_now store.log.device) (images_stand (store.log.kept c.requires told))
+    let reads = reads_both s.content s.images s.moment s.images_since store.log.device c.loop-number.self.log.device c.read.new.self.log.device c.loop-number.invariant.reads c.read.ensures.reads in
+    store_reads s.content s.images s.moment s.images_since (λ x. x.log.device) store _ (Some (pairs_in (frames_in store.log))) reads (g.met.S.StoreDevice.only_now store.log.device) (images_stand (store.log.kept c.requires told))
 
 pub returns-in_err-artifact-clause-left : goal.returns-in_err-artifact-clause-left
 returns-in_err-artifact-clause-left g c told =
     let s = g.S.StoreDevice in
     let store = c.args.self.now in
-    let reads = reads_both s.content s.images s.moment s.images_since store.log.device c.loop-number.self.log.device c.frame_at.new.log.device c.loop-number.invariant.reads c.frame_at.ensures.reads in
-    store_reads s.content s.images s.moment s.images_since (λ x. x.log.device) store (record { log = c.frame_at.new.log }) (Some (pairs_in (frames_in store.log))) reads (g.met.S.StoreDevice.only_now store.log.device) (images_stand (store.log.kept c.requires told))
+    let reads = reads_both s.content s.images s.moment s.images_since store.log.device c.loop-number.self.log.device c.read.new.self.log.device c.loop-number.invariant.reads c.read.ensures.reads in
+    store_reads s.content s.images s.moment s.images_since (λ x. x.log.device) store _ (Some (pairs_in (frames_in store.log))) reads (g.met.S.StoreDevice.only_now store.log.device) (images_stand (store.log.kept c.requires told))
 
 pub returns-clause-left : goal.returns-clause-left
 returns-clause-left g c told =
@@ -52,7 +54,7 @@ found_before {before = before} none same = ap (found_as artifact) same ∙ sym (
 
 pub loop-number-preserved : goal.loop-number-preserved
 loop-number-preserved g c = record {
-  reads = reads_both g.S.StoreDevice.content g.S.StoreDevice.images g.S.StoreDevice.moment g.S.StoreDevice.images_since c.args.self.now.log.device c.loop-number.self.log.device c.frame_at.new.log.device c.loop-number.invariant.reads c.frame_at.ensures.reads;
+  reads = reads_both g.S.StoreDevice.content g.S.StoreDevice.images g.S.StoreDevice.moment g.S.StoreDevice.images_since c.args.self.now.log.device c.loop-number.self.log.device c.read.new.self.log.device c.loop-number.invariant.reads c.read.ensures.reads;
   whole = search rules;
   count = search rules;
   room = search rules;
@@ -77,4 +79,20 @@ loop-number-preserved g c = record {
         | in_default w ↦ found_before w.in_default.is w.found-is
       ] in
       found_step artifact_in c.args.key.now c.args.outs.now (pairs_in es) c.loop-number.number pair (found_as artifact c.loop-number.found) (found_as artifact c.match-branch-3.found) _ lt at (next ∙ ap (λ (o : Option Artifact). or_else o (found_as artifact c.loop-number.found)) gives) (c.loop-number.invariant.found told);
+}
+
+pub loop-number-preserved-then-has_other : goal.loop-number-preserved-then-has_other
+loop-number-preserved-then-has_other g c = record {
+  reads = c.loop-number.invariant.reads;
+  whole = c.loop-number.invariant.whole;
+  count = c.loop-number.invariant.count;
+  room = c.loop-number.invariant.room;
+  faults = c.loop-number.invariant.faults;
+  fits = c.loop-number.invariant.fits;
+  found = λ told.
+      let es = frames_in c.args.self.now.log in
+      let whole : IsTrue (is_whole c.loop-number.self.log) = c.loop-number.invariant.whole ∙ c.requires in
+      let other = subst (λ (bytes : List ℕ). HasOther (pairs_in (frames_of bytes)) c.loop-number.number c.print_of-print.result) c.loop-number.invariant.reads.same (c.has_other.ensures told whole c.if-has_other.true) in
+      let apart = subst (HasOther (pairs_in es) c.loop-number.number) c.print_of-print.ensures other in
+      found_skip artifact_in c.args.key.now c.args.outs.now (pairs_in es) c.loop-number.number (found_as artifact c.loop-number.found) (found artifact_in c.args.key.now c.args.outs.now (pairs_in es)) apart (c.loop-number.invariant.found told);
 }

@@ -35,7 +35,7 @@ returns-in_err-append-clause-left g c told =
     let es = frames_in store.log in
     let put : Pair = (c.args.key.now, c.as_slice.result.now) in
     let same : put ≡ pair_for c.args.key.now (artifact c.args.artifact.now) = ap (λ (l : List ℕ). (c.args.key.now, l)) (c.as_slice.ensures ∙ c.in_ok-text.ensures.text) in
-    store_leaves s.moment s.images_since (λ x. x.log.device) store (record { log = c.append.new.log }) (IsBeforeOrAfter es (frame_for put)) (IsWithOrWithout (pairs_in es) (pair_for c.args.key.now (artifact c.args.artifact.now))) (c.append.ensures.images told) (λ image left. subst (λ (p : Pair). IsWithOrWithout (pairs_in es) p (stands_for image)) same (with_or_without es (frame_for put) image left))
+    store_leaves s.moment s.images_since (λ x. x.log.device) store _ (IsBeforeOrAfter es (frame_for put)) (IsWithOrWithout (pairs_in es) (pair_for c.args.key.now (artifact c.args.artifact.now))) (c.append.ensures.images told) (λ image left. subst (λ (p : Pair). IsWithOrWithout (pairs_in es) p (stands_for image)) same (with_or_without es (frame_for put) image left))
 
 pub returns-clause-left : goal.returns-clause-left
 returns-clause-left g c told =
@@ -44,4 +44,4 @@ returns-clause-left g c told =
     let es = frames_in store.log in
     let put : Pair = (c.args.key.now, c.as_slice.result.now) in
     let same : put ≡ pair_for c.args.key.now (artifact c.args.artifact.now) = ap (λ (l : List ℕ). (c.args.key.now, l)) (c.as_slice.ensures ∙ c.in_ok-text.ensures.text) in
-    store_leaves s.moment s.images_since (λ x. x.log.device) store (record { log = c.append.new.log }) (IsBeforeOrAfter es (frame_for put)) (IsWithOrWithout (pairs_in es) (pair_for c.args.key.now (artifact c.args.artifact.now))) (c.append.ensures.images told) (λ image left. subst (λ (p : Pair). IsWithOrWithout (pairs_in es) p (stands_for image)) same (with_or_without es (frame_for put) image left))
+    store_leaves s.moment s.images_since (λ x. x.log.device) store _ (IsBeforeOrAfter es (frame_for put)) (IsWithOrWithout (pairs_in es) (pair_for c.args.key.now (artifact c.args.artifact.now))) (c.append.ensures.images told) (λ image left. subst (λ (p : Pair). IsWithOrWithout (pairs_in es) p (stands_for image)) same (with_or_without es (frame_for put) image left))
