@@ -12,6 +12,8 @@ use Rattle.page.specs.declared.refusal.Refusal.{Refusal}
 use Rattle.page.specs.declared.refusal.Refusal.TheVariants as refusal
 use Rattle.run_plan.specs.declared.plan.Plan.{Plan}
 use Rattle.plan_laws.specs.Laws.{AsksFor}
+use Rattle.turbo_app.specs.declared.answer.Answer.{Answer}
+use Rattle.turbo_app.specs.Answers.{IsNothingBut}
 
 abbrev pub store_refusal : Fault → Refusal
 store_refusal NotAStore = refusal.NotAStore
@@ -39,3 +41,7 @@ IsRefusedOrder (Ok (Run order)) env files stored reason = AsksFor order env file
 -- why words are refused
 abbrev pub IsRefused : List (List ℕ) → List (List ℕ × List ℕ) → FileMap → List ℕ → Refusal → Type 0
 IsRefused words env files stored reason = IsRefusedOrder (order_of words) env files stored reason
+
+-- where there is a reason to refuse the words, nothing is answered but that refusal, a fault of a device or want of memory
+abbrev pub HasNoOther : List (List ℕ) → List (List ℕ × List ℕ) → FileMap → List ℕ → Answer → Type 0
+HasNoOther words env files stored answer = (reason : Refusal) → IsRefused words env files stored reason → IsNothingBut reason answer

@@ -3,8 +3,8 @@ ghost use Rattle.std.specs.Prelude.{◌≡◌, ◌++◌, ◌<◌, ◌≤◌, ℕ
 ghost use Rattle.spawn_dev.specs.Spawn.{IsIdle};
 ghost use Rattle.cli_words.specs.declared.order.Order.TheVariants.{Run};
 ghost use Rattle.page.specs.Refusals.{line_of, refusal_text};
-ghost use Rattle.turbo_app.specs.Answers.{IfDone, IfRefused, IsNothingBut, HasCauseIn, IsNoFault, IsQuiet, counts_of};
-ghost use Rattle.turbo_app.specs.Asking.{IsRefused, IsRefusedOrder};
+ghost use Rattle.turbo_app.specs.Answers.{IfDone, IfRefused, HasCauseIn, IsNoFault, IsQuiet, counts_of};
+ghost use Rattle.turbo_app.specs.Asking.{IsRefused, IsRefusedOrder, HasNoOther};
 ghost use Rattle.rel_path.specs.Causes.{Counts};
 ghost use Rattle.turbo_app.specs.Steps.{is_failed, raised, IsWordsRefusal};
 ghost use Rattle.turbo_app.specs.Outcomes.{Did, RanOrder, MayChange, MayChangeBy, moment_of};
@@ -115,7 +115,7 @@ pub fn turbo<W: Spawner, S: StoreDevice, K: Sink>(
         (moment_of (W.state world.old).files (W.runs world.old).steps (S.content store) (K.written out.old))
         (moment_of (W.state world.new).files (W.runs world.new).steps (S.content result.1) (K.written out.new))) }
     ensures refused { W.tells → S.tells → IfRefused result.0 (IsRefused words.now env.now (W.state world.old).files (S.content store)) }
-    ensures only { W.tells → S.tells → (reason : _) → IsRefused words.now env.now (W.state world.old).files (S.content store) reason → IsNothingBut reason result.0 }
+    ensures only { W.tells → S.tells → HasNoOther words.now env.now (W.state world.old).files (S.content store) result.0 }
     ensures unstarted { IfRefused result.0 (λ _. W.runs world.new ≡ W.runs world.old) }
     ensures untouched { IfRefused result.0 (λ _. (W.state world.new).files ≡ (W.state world.old).files) }
     ensures same { S.tells → 9 < length (S.content store) → IfRefused result.0 (λ _. S.content result.1 ≡ S.content store) }
