@@ -1,0 +1,12 @@
+//! Cases as data: a file has a case a line, a JSON object with the case's name (`case`), its inputs and the wanted
+//! answer (`is`). A section of a program reads the inputs, makes a call and gives its answer as JSON, which is compared
+//! with the wanted one.
+#![tactic(auto)]
+
+pub mod answers;
+pub mod inputs;
+mod outcome;
+mod section;
+
+pub use outcome::Outcome;
+pub use section::{compare, print_section};

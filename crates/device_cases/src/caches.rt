@@ -1,0 +1,175 @@
+// Stores of results, call by call.
+use crate::artifacts::{artifact_of, shown};
+use crate::devices::{crashed, device_of};
+use crate::parts;
+use crate::sessions::session;
+use anyhow::{Result, anyhow};
+use artifact_store::{OpenErr, Store};
+use cache_api::{Artifact, Cache, CacheErr};
+use case_files::{answers, inputs};
+use globs::{GlobList, GlobLists, OutSet};
+use rel_path::{Bytes, RelPath};
+use serde_json::{Value, json};
+use std::alloc::Global;
+use store_dev::{FuseStore, MemStore, StoreDevice};
+
+// The folder of the task whose results are looked for.
+const FOLDER: &str = "a";
+
+fn open_fault(alloc: Global, fault: OpenErr) -> Result<Value> {
+    match fault {
+        OpenErr::NotAStore => answers::error(alloc, "NotAStore"),
+        OpenErr::Damaged { at } => answers::error_at(alloc, "Damaged", at),
+        OpenErr::Failed => answers::error(alloc, "Failed"),
+        OpenErr::OutOfMemory => Err(anyhow!("out of memory")),
+    }
+}
+
+fn fault(alloc: Global, fault: CacheErr) -> Result<Value> {
+    match fault {
+        CacheErr::Full => answers::text(alloc, "Full"),
+        CacheErr::Failed => answers::text(alloc, "Failed"),
+        CacheErr::OutOfMemory => Err(anyhow!("out of memory")),
+    }
+}
+
+/// Adds a pair to a store that is whole.
+pub fn put<S: StoreDevice>(
+    alloc: Global,
+    store: &mut Store<S>,
+    key: &[u8],
+    artifact: &Artifact,
+) -> Result<Value> {
+    if !store.whole() {
+        return Err(anyhow!("a put that failed came before"));
+    }
+    match store.put(alloc, key, artifact) {
+        Ok(()) => answers::text(alloc, "ok"),
+        Err(error) => fault(alloc, error),
+    }
+}
+
+fn find<S: StoreDevice>(
+    alloc: Global,
+    store: &mut Store<S>,
+    key: &[u8],
+    outs: &OutSet,
+) -> Result<Value> {
+    if !store.whole() {
+        return Err(anyhow!("a put that failed came before"));
+    }
+    match store.find(alloc, key, outs) {
+        Ok(Some(artifact)) => shown(alloc, &artifact),
+        Ok(None) => Ok(Value::Null),
+        Err(error) => fault(alloc, error),
+    }
+}
+
+fn outs_of(alloc: Global, case: &Value) -> Result<OutSet> {
+    Ok(OutSet {
+        folder: RelPath::read(alloc, FOLDER)?,
+        mine: GlobList::read(alloc, &inputs::texts(alloc, case, "outputs")?)?,
+        others: GlobLists::new(alloc),
+    })
+}
+
+fn call_of(
+    alloc: Global,
+    store: &mut Store<FuseStore>,
+    outs: &OutSet,
+    call: &Value,
+) -> Result<Value> {
+    match inputs::text(call, "call")? {
+        "put" => {
+            let key = parts::bytes(alloc, call, "key")?;
+            put(alloc, store, &key, &artifact_of(alloc, call)?)
+        }
+        "find" => find(alloc, store, &parts::bytes(alloc, call, "key")?, outs),
+        "whole" => Ok(Value::from(store.whole())),
+        _ => Err(anyhow!("no such call")),
+    }
+}
+
+// What the calls answer, up to one behind which the store is not whole.
+fn calls(
+    alloc: Global,
+    store: &mut Store<FuseStore>,
+    outs: &OutSet,
+    case: &Value,
+) -> Result<Value> {
+    let mut found = Vec::new(alloc);
+    for call in inputs::list(case, "calls")? {
+        if store.whole() || inputs::text(call, "call")? == "whole" {
+            found.push(call_of(alloc, store, outs, call)?)?;
+        }
+    }
+    Ok(Value::Array(found))
+}
+
+fn used(alloc: Global, case: &Value, outs: &OutSet) -> Result<(Value, FuseStore)> {
+    let bytes = parts::bytes(alloc, case, "bytes")?;
+    match Store::open(alloc, device_of(alloc, case, bytes)?) {
+        Ok(opened) => {
+            let mut store = opened;
+            let found = calls(alloc, &mut store, outs, case)?;
+            Ok((found, store.device()))
+        }
+        Err(unopened) => Ok((open_fault(alloc, unopened.fault)?, unopened.store)),
+    }
+}
+
+// What is found for the key in a store of these bytes.
+fn found_in(alloc: Global, bytes: &[u8], key: &[u8], outs: &OutSet) -> Result<Value> {
+    let device = MemStore::new(alloc, Bytes::read(alloc, bytes)?, Vec::new(alloc));
+    match Store::open(alloc, device) {
+        Ok(opened) => {
+            let mut store = opened;
+            find(alloc, &mut store, key, outs)
+        }
+        Err(unopened) => open_fault(alloc, unopened.fault),
+    }
+}
+
+fn found_later(alloc: Global, bytes: &[u8], case: &Value, outs: &OutSet) -> Result<Value> {
+    let mut found = Vec::new(alloc);
+    for key in inputs::list(case, "later")? {
+        let key = inputs::as_bytes(alloc, key)?;
+        found.push(found_in(alloc, bytes, &key, outs)?)?;
+    }
+    Ok(Value::Array(found))
+}
+
+// A whole session by the traits alone, which opens the device, adds a pair and hands the device back.
+fn session_of(alloc: Global, case: &Value, pair: &Value) -> Result<(Value, FuseStore)> {
+    let bytes = parts::bytes(alloc, case, "bytes")?;
+    let (key, artifact) = (parts::bytes(alloc, pair, "key")?, artifact_of(alloc, pair)?);
+    let device = session(alloc, device_of(alloc, case, bytes)?, &key, &artifact);
+    Ok((Value::Null, device))
+}
+
+/// The bytes that a later run finds: those of the device, or what a crash leaves of them.
+fn left(alloc: Global, device: &FuseStore, case: &Value) -> Result<Vec<u8>> {
+    match inputs::optional(case, "crash") {
+        Some(crash) => {
+            let store = crashed(alloc, device, crash)?;
+            Ok(Vec::from_slice(alloc, store.bytes())?)
+        }
+        None => Ok(Vec::from_slice(alloc, device.inner().bytes())?),
+    }
+}
+
+/// What the calls answer; and what a later run finds for keys (`later`), or else the bytes behind the calls.
+pub fn answer(alloc: Global, case: &Value) -> Result<Value> {
+    let outs = outs_of(alloc, case)?;
+    let (found, device) = match inputs::optional(case, "session") {
+        Some(pair) => session_of(alloc, case, pair)?,
+        None => used(alloc, case, &outs)?,
+    };
+    let bytes = left(alloc, &device, case)?;
+    if inputs::optional(case, "later").is_some() {
+        let later = found_later(alloc, &bytes, case, &outs)?;
+        return Ok(json!(in alloc; {"answers": found, "later": later})?);
+    }
+    let bytes = answers::bytes(alloc, &bytes)?;
+    Ok(json!(in alloc; {"answers": found, "bytes": bytes})?)
+}

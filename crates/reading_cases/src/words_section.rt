@@ -1,0 +1,124 @@
+// Words of the command line, and the order that they are.
+use anyhow::{Result, bail};
+use case_files::{answers, inputs};
+use cli_words::{EnvWord, KeepOn, LogWord, Order, RunOrder, WordsErr};
+use rel_path::Texts;
+use serde_json::{Map, Value, json, put};
+use std::alloc::Global;
+
+// How many commands run at once where no option says it.
+const WIDTH: u32 = 10;
+
+fn refusal(alloc: Global, error: WordsErr) -> Result<Value> {
+    match error {
+        WordsErr::Unknown { at } => answers::error_at(alloc, "Unknown", u64::from(at)),
+        WordsErr::NoTask => answers::error(alloc, "NoTask"),
+        WordsErr::BadValue { at } => answers::error_at(alloc, "BadValue", u64::from(at)),
+        WordsErr::Twice { at } => answers::error_at(alloc, "Twice", u64::from(at)),
+        WordsErr::OutOfMemory => bail!("out of memory"),
+    }
+}
+
+fn log_word(logs: LogWord) -> &'static str {
+    match logs {
+        LogWord::Full => "full",
+        LogWord::HashOnly => "hash-only",
+        LogWord::NewOnly => "new-only",
+        LogWord::ErrorsOnly => "errors-only",
+        LogWord::Silent => "none",
+    }
+}
+
+fn env_word(word: EnvWord) -> &'static str {
+    match word {
+        EnvWord::Strict => "strict",
+        EnvWord::Loose => "loose",
+    }
+}
+
+fn put_texts(
+    alloc: Global,
+    fields: &mut Map<String, Value>,
+    name: &str,
+    texts: &Texts,
+) -> Result<()> {
+    if !texts.as_slice().is_empty() {
+        put(
+            fields,
+            alloc,
+            name,
+            answers::texts(alloc, texts.as_slice())?,
+        )?;
+    }
+    Ok(())
+}
+
+fn put_choices(alloc: Global, fields: &mut Map<String, Value>, order: &RunOrder) -> Result<()> {
+    if order.keep_on == KeepOn::DependenciesSuccessful {
+        let word = answers::text(alloc, "dependencies-successful")?;
+        put(fields, alloc, "continue", word)?;
+    }
+    if let Some(logs) = order.logs {
+        put(fields, alloc, "logs", answers::text(alloc, log_word(logs))?)?;
+    }
+    if let Some(word) = order.env_word {
+        put(fields, alloc, "env", answers::text(alloc, env_word(word))?)?;
+    }
+    Ok(())
+}
+
+fn put_flags(alloc: Global, fields: &mut Map<String, Value>, order: &RunOrder) -> Result<()> {
+    if order.width != WIDTH {
+        put(fields, alloc, "concurrency", Value::from(order.width))?;
+    }
+    if order.force {
+        put(fields, alloc, "force", Value::Bool(true))?;
+    }
+    if order.dry {
+        put(fields, alloc, "dry", Value::Bool(true))?;
+    }
+    Ok(())
+}
+
+// The order of a run, without what is as where no option says it.
+fn run(alloc: Global, order: &RunOrder) -> Result<Value> {
+    let mut fields = Map::new(alloc);
+    put_texts(alloc, &mut fields, "run", &order.tasks)?;
+    put_texts(alloc, &mut fields, "filters", &order.filters)?;
+    put_texts(alloc, &mut fields, "args", &order.args)?;
+    put_flags(alloc, &mut fields, order)?;
+    put_choices(alloc, &mut fields, order)?;
+    Ok(Value::Object(fields))
+}
+
+fn read(alloc: Global, case: &Value) -> Result<Result<Order, WordsErr>> {
+    let words = inputs::texts(alloc, case, "words")?;
+    Ok(Order::read(alloc, words.as_slice()))
+}
+
+fn order(alloc: Global, case: &Value) -> Result<Value> {
+    match read(alloc, case)? {
+        Ok(Order::Help) => answers::text(alloc, "help"),
+        Ok(Order::Prune { targets }) => {
+            let targets = answers::texts(alloc, targets.as_slice())?;
+            Ok(json!(in alloc; {"prune": targets})?)
+        }
+        Ok(Order::Run(order)) => run(alloc, &order),
+        Err(error) => refusal(alloc, error),
+    }
+}
+
+fn message(alloc: Global, case: &Value) -> Result<Value> {
+    match read(alloc, case)? {
+        Ok(_order) => bail!("no refusal"),
+        Err(error) => answers::printed(alloc, &error),
+    }
+}
+
+pub fn answer(alloc: Global, case: &Value) -> Result<Value> {
+    match inputs::text_or(case, "call", "read")? {
+        "read" => order(alloc, case),
+        "message" => message(alloc, case),
+        _ => bail!("no such call"),
+    }
+}
