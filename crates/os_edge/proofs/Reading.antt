@@ -1,7 +1,8 @@
 -- What a read with a limit gives of a source whose bytes are known.
-use Rattle.std.proofs.Common.{◌≡◌, ℕ, ◌<◌, ◌≤◌, List, length, take, ap, ◌∙◌, arith, false}
+use Rattle.std.proofs.Common.{◌≡◌, ℕ, ◌<◌, ◌≤◌, List, ◌++◌, length, take, sym, ap, ◌∙◌, arith, false}
 use Rattle.std.specs.Prelude.{Option, Some, None, IfSome, nat_lt}
 use Rattle.std.specs.Option.{option_map}
+use Rattle.std.specs.Io.KnownBytes.{Consumes}
 use Rattle.std.proofs.lemmas.List.{length-take, take_all}
 use Rattle.std.proofs.lemmas.Bool.{le-ltb}
 use Rattle.tree_dev.specs.declared.tree.Found.TheVariants.{Here}
@@ -25,3 +26,9 @@ whole_found (Some bytes) limit n read is within_limit short =
     let few : length bytes ≤ limit = rw (← whole) within_limit in
     let no : nat_lt limit (length bytes) ≡ false = le-ltb limit (length bytes) few in
     rw no (ap Here whole)
+
+-- what two reads gave, one after the other
+pub read_on : (known left : Option (List ℕ)) (first all : List ℕ) → Consumes known left first → IfSome left (λ xs. all ≡ first ++ xs) → IfSome known (λ bytes. all ≡ bytes)
+read_on None left first all consumed rest = tt
+read_on (Some bytes) None first all consumed rest = absurd consumed
+read_on (Some bytes) (Some xs) first all consumed rest = rest ∙ sym consumed

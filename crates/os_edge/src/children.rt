@@ -1,31 +1,23 @@
 // The children that run.
-ghost use Rattle.std.specs.Prelude.{◌≡◌, ◌≤◌, ◌<◌, ◌∷◌, ◌++◌, [], None, true, false, length, IfOk, OnOk, OnErr, IfErr, IsTrue};
+ghost use Rattle.std.specs.Prelude.{◌≡◌, ◌<◌, ◌∷◌, ◌++◌, [], None, true, false, length, OnOk, OnErr, IfErr, IsTrue};
 ghost use Rattle.spawn_dev.specs.Running.{command_at, are_distinct};
-ghost use Rattle.os_edge.specs.World.{itself};
+ghost use Rattle.os_edge.specs.World.{itself, IsTakenOut};
 
-use crate::shell::{ChildEnd, finish, shell, spawn};
+use crate::ends::ChildEnd;
+use crate::reports::told_of_start;
+use crate::running::Running;
+use crate::shell::{shell, spawn};
+use crate::waiting::Watch;
 use spawn_dev::Command;
 use std::alloc::Global;
-use std::collections::VecDeque;
 use std::marker::Model;
-use std::process::{Child, OpenProcess, Processes};
+use std::os::fd::AsRawFd;
+use std::process::{OpenProcess, Processes};
+use std::time::{Clock, Duration};
 use std::{io, process};
 
 // The system's error where a process has no more descriptors.
 const TOO_MANY_OPEN: i32 = 24;
-
-#[derive(Drop)]
-struct Running<P: OpenProcess> {
-    command: Command,
-    child: Child<P>,
-}
-
-// A child that was waited for before its turn.
-#[derive(Drop)]
-struct Finished {
-    command: Command,
-    outcome: io::Result<ChildEnd>,
-}
 
 // A start that failed, with the command that wasn't started.
 #[derive(Drop)]
@@ -34,25 +26,24 @@ struct Refused {
     error: io::Error,
 }
 
-/// The children whose ends were not told yet, by their commands, oldest first. No two have one place. Where
-/// descriptors run out the oldest are finished in advance.
+/// The children whose ends were not told yet, by their commands, oldest first. No two have one place.
 #[derive(Drop)]
 pub struct Children<P: OpenProcess> {
-    finished: VecDeque<Finished>,
-    running: VecDeque<Running<P>>,
+    running: Vec<Running<P>>,
+    watch: Watch,
 }
 
 impl<P: OpenProcess> Model for Children<P> {
-    ghost use Rattle.std.specs.Prelude.{List, IsTrue, ◌++◌, map};
+    ghost use Rattle.std.specs.Prelude.{List, IsTrue, map};
     ghost use Rattle.spawn_dev.specs.Running.{are_distinct};
     ghost use Rattle.spawn_dev.specs.declared.command.Command.{Command};
     ghost use Rattle.os_edge.specs.World.{itself};
 
     ghost Value = { List Command };
 
-    ghost view = { λ c. map (λ f. f.command) c.finished.items ++ map (λ r. r.command) c.running.items };
+    ghost view = { λ c. map (λ r. r.command) c.running.items };
 
-    ghost invariant = { λ c. IsTrue (are_distinct itself (map (λ f. f.command) c.finished.items ++ map (λ r. r.command) c.running.items)) };
+    ghost invariant = { λ c. IsTrue (are_distinct itself (map (λ r. r.command) c.running.items)) };
 }
 
 impl<P: OpenProcess + Drop> Children<P> {
@@ -61,8 +52,8 @@ impl<P: OpenProcess + Drop> Children<P> {
         ensures { result ≡ [] }
     {
         Children {
-            finished: VecDeque::new(alloc),
-            running: VecDeque::new(alloc),
+            running: Vec::new(alloc),
+            watch: Watch::new(alloc),
         }
     }
 
@@ -70,12 +61,17 @@ impl<P: OpenProcess + Drop> Children<P> {
         ensures none { result ≡ true → self.now ≡ [] }
         ensures some { result ≡ false → 0 < length self.now }
     {
-        self.finished.is_empty() && self.running.is_empty()
+        self.running.is_empty()
     }
+}
 
-    /// Starts the command at a place where none runs. Where descriptors run out the oldest child is finished,
-    /// and the start is tried again.
-    pub fn start<R: Processes<Started = P>>(
+impl<P: OpenProcess + Drop> Children<P>
+where
+    P::Stdout: AsRawFd,
+{
+    /// Starts the command at a place where none runs. Where descriptors run out the others are read on until one
+    /// of their pipes is at its end, and the start is tried again.
+    pub fn start<R: Processes<Started = P> + Clock + Eprint>(
         &mut self,
         rt: &R,
         alloc: Global,
@@ -86,13 +82,13 @@ impl<P: OpenProcess + Drop> Children<P> {
         ensures kept { OnErr result (self.new ≡ self.old) }
     {
         let mut shell = shell(alloc, &command)?;
-        match self.try_start(rt, command, &mut shell) {
+        match self.try_start(rt, alloc, command, &mut shell) {
             Ok(()) => Ok(()),
             Err(refused) => self.start_again(rt, alloc, refused, &mut shell),
         }
     }
 
-    fn start_again<R: Processes<Started = P>>(
+    fn start_again<R: Processes<Started = P> + Clock + Eprint>(
         &mut self,
         rt: &R,
         alloc: Global,
@@ -103,21 +99,27 @@ impl<P: OpenProcess + Drop> Children<P> {
         ensures started { OnOk result (self.new ≡ self.old ++ refused.command ∷ []) }
         ensures kept { OnErr result (self.new ≡ self.old) }
     {
-        let Refused { command, error } = refused;
-        if error.raw_os_error() != Some(TOO_MANY_OPEN) {
-            return Err(error);
+        if refused.error.raw_os_error() != Some(TOO_MANY_OPEN) {
+            return Err(told_of_start(rt, &refused.command, refused.error));
         }
-        self.finish_oldest(alloc)?;
-        match self.try_start(rt, command, shell) {
+        self.close_one(rt, alloc)?;
+        match self.try_start(rt, alloc, refused.command, shell) {
             Ok(()) => Ok(()),
-            Err(refused) => Err(refused.error),
+            Err(refused) => Err(told_of_start(rt, &refused.command, refused.error)),
         }
     }
 
+    fn close_one<R: Clock + Eprint>(&mut self, rt: &R, alloc: Global) -> io::Result<()>
+        ensures { self.new ≡ self.old }
+    {
+        self.watch.close_one(rt, alloc, self.running.as_mut_slice())
+    }
+
     // Room is made before the child is, so that no child is lost.
-    fn try_start<R: Processes<Started = P>>(
+    fn try_start<R: Processes<Started = P> + Clock>(
         &mut self,
         rt: &R,
+        alloc: Global,
         command: Command,
         shell: &mut process::Command,
     ) -> Result<(), Refused>
@@ -132,36 +134,35 @@ impl<P: OpenProcess + Drop> Children<P> {
         }
         match spawn(rt, shell) {
             Ok(child) => {
-                self.running.push_back_reserved(Running { command, child });
+                let since = rt.monotonic().unwrap_or(Duration::ZERO);
+                let started = Running::new(alloc, command, child, since);
+                self.running.push_reserved(started);
                 Ok(())
             }
             Err(error) => Err(Refused { command, error }),
         }
     }
 
-    // Finishes the oldest that runs in advance, which frees its descriptor.
-    fn finish_oldest(&mut self, alloc: Global) -> io::Result<()>
-        ensures { self.new ≡ self.old }
+    // The place of one that has ended, or of the first where that can't be found.
+    fn wait<R: Clock + Eprint>(&mut self, rt: &R, alloc: Global) -> usize
+        requires { 0 < length self.old }
+        ensures kept { self.new ≡ self.old }
+        ensures place { result < length self.new }
     {
-        self.finished.reserve(1)?;
-        if let Some(Running { command, child }) = self.running.pop_front() {
-            let outcome = finish(alloc, child);
-            self.finished
-                .push_back_reserved(Finished { command, outcome });
-        }
-        Ok(())
+        self.watch.wait(rt, alloc, self.running.as_mut_slice())
     }
 
-    /// Takes the oldest out, once it has ended.
-    pub fn take(&mut self, alloc: Global) -> (Command, io::Result<ChildEnd>)
+    /// Takes out whichever has ended first, once one has.
+    pub fn take<R: Clock + Eprint>(
+        &mut self,
+        rt: &R,
+        alloc: Global,
+    ) -> (Command, io::Result<ChildEnd>)
         requires { 0 < length self.old }
-        ensures taken { self.old ≡ result.0 ∷ self.new }
+        ensures taken { IsTakenOut result.0 self.old self.new }
         ensures distinct { IsTrue (are_distinct itself self.old) }
     {
-        if let Some(Finished { command, outcome }) = self.finished.pop_front() {
-            return (command, outcome);
-        }
-        let Running { command, child } = self.running.pop_front().unwrap();
-        (command, finish(alloc, child))
+        let place = self.wait(rt, alloc);
+        self.running.remove(place).finish()
     }
 }

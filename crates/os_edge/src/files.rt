@@ -1,13 +1,14 @@
 // Files of the system: reading, writing and removing one.
-ghost use Rattle.std.specs.Prelude.{◌≡◌, Some, IfOk, IfSome};
+ghost use Rattle.std.specs.Prelude.{◌≡◌, ◌≤◌, Some, IfOk, IfSome, length, take};
 ghost use Rattle.tree_dev.specs.Tree.{within};
 ghost use Rattle.os_edge.specs.Paths.{IsWithin};
+ghost use Rattle.std.specs.Io.KnownBytes.{Consumes};
 
 use crate::faults::present;
 use crate::folders::system_path;
 use rel_path::{Bytes, RelPath};
 use std::alloc::Global;
-use std::fs::OpenOptions;
+use std::fs::{Metadata, OpenOptions};
 use std::io::{ErrorKind, Read, Write};
 use std::rt::Files;
 use std::{fs, io};
@@ -23,7 +24,7 @@ pub fn read(rt: &impl Files, alloc: Global, path: &RelPath, limit: u64) -> io::R
         return Ok(Found::Absent);
     };
     if !metadata.is_file() {
-        return Err(io::Error::from(ErrorKind::IsADirectory));
+        return Err(io::Error::from(kind_of(&metadata)));
     }
     if metadata.len() > limit {
         return Ok(Found::TooLong);
@@ -31,20 +32,48 @@ pub fn read(rt: &impl Files, alloc: Global, path: &RelPath, limit: u64) -> io::R
     let Some(file) = present(fs::open(rt, path.as_str()))? else {
         return Ok(Found::Absent);
     };
-    read_within(alloc, file, limit)
+    let room = usize::try_from(metadata.len())
+        .unwrap_or(0)
+        .saturating_add(1);
+    read_within(alloc, file, room, limit)
 }
 
-// The file may have grown since its length was asked for.
-fn read_within<F: Read + Drop>(alloc: Global, file: F, limit: u64) -> io::Result<Found>
+// The error of what is no file.
+fn kind_of(metadata: &Metadata) -> ErrorKind {
+    if metadata.is_dir() {
+        ErrorKind::IsADirectory
+    } else {
+        ErrorKind::Unsupported
+    }
+}
+
+// All of the file, which may have grown since its length was asked for. The room is a byte more than that, so
+// that a file that has not is read by the first call, and found at its end by the second.
+fn read_within<F: Read + Drop>(alloc: Global, file: F, room: usize, limit: u64) -> io::Result<Found>
     ensures short { IfOk result (IsWithin limit) }
     ensures whole { IfOk result (λ found. IfSome (F.remaining file) (λ bytes. found ≡ within limit (Some bytes))) }
 {
-    let mut bytes = Vec::new(alloc);
-    file.take(limit.saturating_add(1)).read_to_end(&mut bytes)?;
+    let mut bytes = vec![in alloc; 0u8; room]?;
+    let mut file = file.take(limit.saturating_add(1));
+    let count = read_once(&mut file, bytes.as_mut_slice())?;
+    bytes.truncate(count);
+    file.read_to_end(&mut bytes)?;
     if bytes.len() as u64 > limit {
         return Ok(Found::TooLong);
     }
     Ok(Found::Here(Bytes::from_vec(bytes)))
+}
+
+// One read. A signal counts as nothing read.
+fn read_once<F: Read>(file: &mut F, buf: &mut [u8]) -> io::Result<usize>
+    ensures bytes { IfOk result (λ n. Consumes (F.remaining file.old) (F.remaining file.new)
+        (take n buf.new)) }
+    ensures within { IfOk result (λ n. n ≤ length buf.new) }
+{
+    match file.read(buf) {
+        Err(e) if e.kind() == ErrorKind::Interrupted => Ok(0),
+        outcome => outcome,
+    }
 }
 
 /// Makes the folders above the path, takes away what stands at it, and makes the file anew. So a link

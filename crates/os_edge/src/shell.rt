@@ -1,26 +1,17 @@
 // The shell that runs a command.
-ghost use Rattle.std.specs.Prelude.{◌≡◌, ◌≤◌, ◌∷◌, ◌++◌, [], ℕ, List, true, None, length, IfOk, IfErr, IfSome, IfNone, OnOk, codes, pos};
-ghost use Rattle.std.specs.Process.{command_program, command_args, command_var, clears_env, SameProgramAndArgs, exit_code};
+ghost use Rattle.std.specs.Prelude.{◌≡◌, ◌∷◌, ◌++◌, [], ℕ, List, true, None, IfOk, IfErr, OnOk, codes};
+ghost use Rattle.std.specs.Process.{command_program, command_args, command_var, clears_env, SameProgramAndArgs};
 ghost use Rattle.std.specs.IoError.{error_kind};
 ghost use Rattle.spawn_dev.specs.ShellText.{shell_text_of};
-ghost use Rattle.spawn_dev.specs.declared.spawner.TheConstants.{LOG_LIMIT};
 ghost use Rattle.os_edge.specs.Shell.{set_over, set_all_over, var_of};
 
 use crate::faults::out_of_memory;
-use rel_path::{Bytes, Text};
-use spawn_dev::{Command, LOG_LIMIT, shell_text};
+use rel_path::Text;
+use spawn_dev::{Command, shell_text};
 use std::alloc::{AllocError, Global};
-use std::io::{ErrorKind, Read};
-use std::process::{Child, ExitStatus, OpenProcess, Processes, Stdio};
+use std::io::ErrorKind;
+use std::process::{Child, Processes, Stdio};
 use std::{io, process};
-
-/// How a child ended, and what it wrote.
-#[derive(Drop)]
-pub struct ChildEnd {
-    pub status: u8,
-    pub log: Bytes,
-    ghost short: { length log ≤ LOG_LIMIT },
-}
 
 fn push_word(shell: &mut process::Command, word: &str) -> Result<(), AllocError>
     ensures word { OnOk result (command_args shell.new ≡ command_args shell.old ++ word.now ∷ []) }
@@ -85,44 +76,4 @@ pub fn spawn<R: Processes>(rt: &R, shell: &mut process::Command) -> io::Result<C
     shell.stdin(Stdio::null());
     shell.stdout(Stdio::piped());
     shell.spawn(rt)
-}
-
-/// Reads what the child writes, to its end, and then waits for the child. After a fault of the read, and
-/// where the log is over the limit, the pipe is closed and the child waited for all the same.
-pub fn finish<P: OpenProcess + Drop>(alloc: Global, mut child: Child<P>) -> io::Result<ChildEnd>
-    ensures whole { IfOk result (λ end. IfSome child.stdout (λ pipe. IfSome (P.Stdout.remaining pipe) (λ bytes. end.log ≡ bytes))) }
-{
-    let log = match child.stdout.take() {
-        Some(pipe) => read_log(alloc, pipe),
-        None => Ok(Bytes::from_vec(Vec::new(alloc))),
-    };
-    let status = child.wait()?;
-    Ok(ChildEnd {
-        status: status_byte(status),
-        log: log?,
-    })
-}
-
-// All that the pipe gives, which is closed at the end.
-fn read_log<P: Read + Drop>(alloc: Global, pipe: P) -> io::Result<Bytes>
-    ensures short { IfOk result (λ log. length log ≤ LOG_LIMIT) }
-    ensures whole { IfOk result (λ log. IfSome (P.remaining pipe) (λ bytes. log ≡ bytes)) }
-{
-    let mut log = Vec::new(alloc);
-    pipe.take(LOG_LIMIT as u64 + 1).read_to_end(&mut log)?;
-    if log.len() > LOG_LIMIT {
-        return Err(io::Error::from(ErrorKind::FileTooLarge));
-    }
-    Ok(Bytes::from_vec(log))
-}
-
-// A signal leaves no code.
-fn status_byte(status: ExitStatus) -> u8
-    ensures code { IfSome (exit_code status) (λ code. pos result ≡ code) }
-    ensures signal { IfNone (exit_code status) (result ≡ 255) }
-{
-    match status.code() {
-        Some(code) => u8::try_from(code).unwrap_or(255),
-        None => 255,
-    }
 }

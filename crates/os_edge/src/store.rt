@@ -4,10 +4,11 @@ ghost use Rattle.std.specs.Fs.{asks_read, asks_write, asks_append, asks_truncate
 ghost use Rattle.rel_path.specs.Causes.{Counts};
 ghost use Rattle.store_dev.specs.Errors.{is_fault, OnlyFails};
 
+use crate::backing::{Backing, is_ours};
+use crate::reports::told_of;
 use std::alloc::Global;
 use std::fs::{File, OpenOptions};
 use std::io::ErrorKind;
-use std::os::unix::fs::FileExt;
 use std::rt::Files;
 use std::{fs, io};
 use store_dev::{StoreDevice, StoreErr};
@@ -17,35 +18,60 @@ const FOLDER: &str = ".turbo";
 
 const PATH: &str = ".turbo/store.turb";
 
+// From here on a store is worth a word.
+const LARGE: u64 = 1 << 30;
+
 /// The file `.turbo/store.turb` of the current folder, with a count of its faults. The first call of
-/// [`StoreDevice`] opens it, and makes it and its folder where they are not there. It tells no bytes. Its count of
-/// faults stands still at the last value of a u64.
+/// [`StoreDevice`] opens it and locks it for good, and makes it and its folder where they are not there. While
+/// another run holds the lock, an empty store in memory stands in its place, which nobody keeps. It tells no
+/// bytes. Its count of faults stands still at the last value of a u64.
 #[derive(Drop)]
 pub struct OsStore<R> {
     rt: R,
-    file: Option<File>,
+    backing: Option<Backing>,
     faults: u64,
 }
 
-impl<R: Files<File = File>> OsStore<R> {
+impl<R: Files<File = File> + Eprint + AllocGlobal> OsStore<R> {
     /// The device, which touches no file yet. It takes no memory.
     pub fn new(rt: R) -> OsStore<R>
         ensures { ⟦<OsStore<R> as StoreDevice>⟧.store_faults result ≡ 0 }
     {
         OsStore {
             rt,
-            file: None,
+            backing: None,
             faults: 0,
         }
     }
 }
 
-// The open file. After an opening that failed it is opened anew.
-fn opened<'a, R: Files<File = File>>(rt: &R, file: &'a mut Option<File>) -> io::Result<&'a File> {
-    match file {
-        Some(file) => Ok(file),
-        None => Ok(file.insert(open(rt)?)),
+// The store, opened once. After an opening that failed it is opened anew.
+fn opened<'a, R: Files<File = File> + Eprint + AllocGlobal>(
+    rt: &R,
+    backing: &'a mut Option<Backing>,
+) -> io::Result<&'a mut Backing> {
+    match backing {
+        Some(backing) => Ok(backing),
+        None => Ok(backing.insert(told_of(rt, PATH, "opened", backing_of(rt))?)),
     }
+}
+
+// The file, or an empty store in memory while another run holds it.
+fn backing_of<R: Files<File = File> + Eprint + AllocGlobal>(rt: &R) -> io::Result<Backing> {
+    let file = open(rt)?;
+    if is_ours(file.try_lock())? {
+        warn_of_size(rt, &file)?;
+        return Ok(Backing::File(file));
+    }
+    let _ = eprintln!(rt; "turbo: another run holds {PATH}, so this one keeps no results");
+    Ok(Backing::Memory(Vec::new(rt.alloc())))
+}
+
+fn warn_of_size(rt: &impl Eprint, file: &File) -> io::Result<()> {
+    if file.metadata()?.len() > LARGE {
+        let _ = eprintln!(rt; "turbo: {PATH} has passed a gibibyte, and may be deleted");
+    }
+    Ok(())
 }
 
 // A file is made where none stands, and one that stands keeps its bytes.
@@ -97,7 +123,7 @@ fn counted<T>(faults: &mut u64, outcome: io::Result<T>) -> Result<T, StoreErr>
     }
 }
 
-impl<R: Files<File = File>> StoreDevice for OsStore<R> {
+impl<R: Files<File = File> + Eprint + AllocGlobal> StoreDevice for OsStore<R> {
     ghost tells = { ⊥ };
 
     ghost content = { λ _. [] };
@@ -121,27 +147,35 @@ impl<R: Files<File = File>> StoreDevice for OsStore<R> {
     ghost only_now = { λ _ _ left. left };
 
     fn len(&mut self) -> Result<u64, StoreErr> {
-        let file = opened(&self.rt, &mut self.file);
-        let metadata = file.and_then(|file| file.metadata());
-        let outcome = metadata.map(|metadata| metadata.len());
+        let rt = &self.rt;
+        let store = opened(rt, &mut self.backing);
+        let outcome = store.and_then(|store| told_of(rt, PATH, "measured", store.len()));
         counted(&mut self.faults, outcome)
     }
 
     fn read_at(&mut self, at: u64, buf: &mut [u8]) -> Result<(), StoreErr> {
-        let file = opened(&self.rt, &mut self.file);
-        let outcome = file.and_then(|file| file.read_exact_at(buf, at));
+        let rt = &self.rt;
+        let store = opened(rt, &mut self.backing);
+        let outcome = store.and_then(|store| told_of(rt, PATH, "read", store.read_at(at, buf)));
         counted(&mut self.faults, outcome)
     }
 
     fn write_at(&mut self, _alloc: Global, at: u64, bytes: &[u8]) -> Result<(), StoreErr> {
-        let file = opened(&self.rt, &mut self.file);
-        let outcome = file.and_then(|file| file.write_all_at(bytes, at));
+        let rt = &self.rt;
+        let store = opened(rt, &mut self.backing);
+        let outcome = store.and_then(|store| told_of(
+            rt,
+            PATH,
+            "written",
+            store.write_at(at, bytes),
+        ));
         counted(&mut self.faults, outcome)
     }
 
     fn sync(&mut self) -> Result<(), StoreErr> {
-        let file = opened(&self.rt, &mut self.file);
-        let outcome = file.and_then(|file| file.sync_all());
+        let rt = &self.rt;
+        let store = opened(rt, &mut self.backing);
+        let outcome = store.and_then(|store| told_of(rt, PATH, "synced", store.sync()));
         counted(&mut self.faults, outcome)
     }
 }

@@ -7,12 +7,15 @@ ghost use Rattle.os_edge.specs.World.{runs_of, state_with};
 
 use crate::children::Children;
 use crate::faults::counted;
+use crate::reports::{told, told_of_end};
 use crate::{files, folders};
 use rel_path::RelPath;
 use spawn_dev::{Command, Ended, Spawner};
 use std::alloc::Global;
-use std::process::Processes;
+use std::os::fd::AsRawFd;
+use std::process::{OpenProcess, Processes};
 use std::rt::Files;
+use std::time::Clock;
 use tree_dev::{DevErr, Entries, Found, Tree};
 
 /// The world of the system: the files below the current folder, and commands that `/bin/sh` runs. It tells no
@@ -25,7 +28,10 @@ pub struct OsWorld<R: Processes> {
     start_faults: u64,
 }
 
-impl<R: Files + Processes + AllocGlobal + Clone + Drop> OsWorld<R> {
+impl<R: Files + Processes + Clock + Eprint + AllocGlobal + Clone + Drop> OsWorld<R>
+where
+    <R::Started as OpenProcess>::Stdout: AsRawFd,
+{
     /// The world below the current folder, in which nothing was started. It takes no memory.
     pub fn new(rt: R, alloc: Global) -> OsWorld<R>
         ensures state { ⟦<OsWorld<R> as Tree>⟧.state result ≡ state_with (runs_of [] 0) 0 }
@@ -40,7 +46,10 @@ impl<R: Files + Processes + AllocGlobal + Clone + Drop> OsWorld<R> {
     }
 }
 
-impl<R: Files + Processes + AllocGlobal + Clone + Drop> Tree for OsWorld<R> {
+impl<R: Files + Processes + Clock + Eprint + AllocGlobal + Clone + Drop> Tree for OsWorld<R>
+where
+    <R::Started as OpenProcess>::Stdout: AsRawFd,
+{
     ghost tells = { ⊥ };
 
     ghost Rest = { Runs (Unit {0}) };
@@ -49,28 +58,35 @@ impl<R: Files + Processes + AllocGlobal + Clone + Drop> Tree for OsWorld<R> {
 
     fn list(&mut self, alloc: Global, folder: &RelPath) -> Result<Entries, DevErr> {
         let outcome = folders::list(&self.rt, alloc, folder);
+        let outcome = told(&self.rt, alloc, folder, "listed", outcome);
         counted(&mut self.tree_faults, outcome)
     }
 
     fn read(&mut self, alloc: Global, path: &RelPath, limit: u64) -> Result<Found, DevErr> {
         let outcome = files::read(&self.rt, alloc, path, limit);
+        let outcome = told(&self.rt, alloc, path, "read", outcome);
         counted(&mut self.tree_faults, outcome)
     }
 
     fn write(&mut self, alloc: Global, path: &RelPath, bytes: &[u8]) -> Result<(), DevErr> {
         let outcome = files::write(&self.rt, alloc, path, bytes);
+        let outcome = told(&self.rt, alloc, path, "written", outcome);
         counted(&mut self.tree_faults, outcome)
     }
 
     fn remove(&mut self, alloc: Global, path: &RelPath) -> Result<(), DevErr> {
         let outcome = files::remove(&self.rt, alloc, path);
+        let outcome = told(&self.rt, alloc, path, "removed", outcome);
         counted(&mut self.tree_faults, outcome)
     }
 
     ghost apart = { λ a told path held. cc };
 }
 
-impl<R: Files + Processes + AllocGlobal + Clone + Drop> Spawner for OsWorld<R> {
+impl<R: Files + Processes + Clock + Eprint + AllocGlobal + Clone + Drop> Spawner for OsWorld<R>
+where
+    <R::Started as OpenProcess>::Stdout: AsRawFd,
+{
     ghost Book = { Unit {0} };
 
     ghost effect = { λ _ _. no_effect };
@@ -84,7 +100,8 @@ impl<R: Files + Processes + AllocGlobal + Clone + Drop> Spawner for OsWorld<R> {
     }
 
     fn wait(&mut self, alloc: Global) -> Result<Ended, DevErr> {
-        let (command, outcome) = self.children.take(alloc);
+        let (command, outcome) = self.children.take(&self.rt, alloc);
+        let outcome = told_of_end(&self.rt, &command, outcome);
         let place = command.place;
         let end = counted(&mut self.start_faults, outcome)?;
         Ok(Ended {

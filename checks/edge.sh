@@ -1,0 +1,129 @@
+#!/usr/bin/env bash
+# Tries the built program where no test of a crate can: with closed descriptors, in two runs at once on one store,
+# with faults of files and of the store, and with processes that are left behind.
+#
+#     checks/edge.sh PROGRAM
+#
+# Prints a line for each, and ends with 1 where one failed.
+set -u
+
+program=$(realpath "$1")
+work=$(mktemp -d)
+trap 'chmod -R u+rwx "$work"; rm -rf "$work"' EXIT
+failed=0
+
+check() {
+    local name=$1
+    shift
+    if "$@"; then
+        echo "ok      $name"
+    else
+        echo "FAILED  $name"
+        failed=1
+    fi
+}
+
+# A repository of one package `ui` with this script, which owns `dist`, as the current folder.
+one() {
+    rm -rf "$work/one"
+    mkdir -p "$work/one/packages/ui/src"
+    cd "$work/one"
+    echo '{"name":"root","version":"1.0.0","workspaces":["packages/*"]}' >package.json
+    echo '{"tasks":{"build":{"outputs":["dist/**"]},"lint":{}}}' >turbo.json
+    printf '.turbo\ndist\n' >.gitignore
+    printf '{"name":"ui","version":"1.0.0","scripts":{"build":"%s","lint":"sleep 1; echo linted"}}\n' "$1" \
+        >packages/ui/package.json
+    echo one >packages/ui/src/a.txt
+}
+
+says() {
+    grep -q -- "$1" "$work/err"
+}
+
+build='mkdir -p dist; head -c 300000 /dev/zero >dist/app.js; echo built'
+
+closed() {
+    one "$build"
+    "$program" build >/dev/null && cp .turbo/store.turb "$work/before"
+    "$program" build >&- 2>&-
+    "$program" build <&- >&- 2>&-
+    cmp -s .turbo/store.turb "$work/before" && "$program" build | grep -q '1 cached, 1 total'
+}
+check 'closed descriptors leave the store as it is' closed
+
+closed_first() {
+    one "$build"
+    "$program" build <&- >&- 2>&-
+    "$program" build | grep -q '1 cached, 1 total'
+}
+check 'a first run with closed descriptors stores its result' closed_first
+
+two_runs() {
+    one "$build"
+    "$program" lint >"$work/lint" 2>"$work/lint.err" &
+    local other=$!
+    sleep 0.3
+    "$program" build >"$work/out" 2>"$work/err" || return 1
+    wait $other || return 1
+    says 'another run holds' && ! grep -q 'another run' "$work/lint.err" || return 1
+    "$program" lint | grep -q '1 cached, 1 total' && "$program" build | grep -q '0 cached, 1 total' || return 1
+    rm -rf packages/ui/dist
+    "$program" build | grep -q '1 cached, 1 total' && [ "$(tr -d '\0' <packages/ui/dist/app.js | wc -c)" = 0 ]
+}
+check 'a run beside another one keeps no results, and harms none' two_runs
+
+nested() {
+    one 'cd ../..; '"$program"' lint'
+    timeout 20 "$program" build >"$work/out" 2>"$work/err"
+}
+check 'a script may run the program' nested
+
+unwritable() {
+    one "$build"
+    : >packages/ui/.turbo
+    ! "$program" build >"$work/out" 2>"$work/err" && says 'packages/ui/.turbo/turbo-build.log could not be'
+}
+check 'a file that cannot be written is named' unwritable
+
+store_in_the_way() {
+    one "$build"
+    mkdir -p .turbo/store.turb
+    ! "$program" build >"$work/out" 2>"$work/err" && says '.turbo/store.turb could not be opened: '
+}
+check 'a store that cannot be opened is named' store_in_the_way
+
+long_log() {
+    one 'head -c 67108865 /dev/zero'
+    ! "$program" build >"$work/out" 2>"$work/err" && says 'ui#build wrote more than 67108864 bytes'
+}
+check 'a log over the limit is told with its task' long_log
+
+left_behind() {
+    one 'sleep 30 & echo hi'
+    timeout 10 "$program" build >"$work/out" 2>"$work/err" && grep -q hi "$work/out"
+}
+check 'a process that is left behind holds nobody' left_behind
+
+unread_config() {
+    one "$build"
+    mv turbo.json turbo.jsonc
+    "$program" build >"$work/out" 2>"$work/err"
+    says 'turbo.jsonc' && [ "$(wc -l <"$work/err")" = 1 ]
+}
+check 'turbo.jsonc beside no turbo.json is worth a line' unread_config
+
+quiet() {
+    one 'sleep 1; echo hi'
+    "$program" build >"$work/out" 2>"$work/err" && [ ! -s "$work/err" ]
+}
+check 'nothing is written into a pipe or file while commands run' quiet
+
+alive() {
+    one 'sleep 1; echo hi'
+    command -v script >/dev/null || return 0
+    script -qec "'$program' build >'$work/out'" "$work/screen" >/dev/null
+    grep -q 'running: ui#build' "$work/screen" && tail -c 4 "$work/screen" | grep -q . 
+}
+check 'a terminal shows what runs' alive
+
+exit $failed
