@@ -1,2 +1,0 @@
-mod SimpleFacts
-mod StandFacts
