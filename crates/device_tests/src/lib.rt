@@ -1,6 +1,8 @@
 //! Tests of the devices, and callers that are generic over them.
 #![tactic(auto)]
 
+#[cfg(test)]
+mod ends;
 mod generic;
 #[cfg(test)]
 mod given;

@@ -226,19 +226,3 @@ pub fn next_end<W: Spawner>(
     assert!(rt; !world.is_idle());
     world.wait(alloc)
 }
-
-/// Starts a script at place 1, and beside it one at place 2.
-pub fn start_two<W: Spawner>(
-    alloc: Global,
-    world: &mut W,
-    first: &str,
-    second: &str,
-) -> Result<(), DevErr>
-    requires { IsIdle (W.runs world.old) }
-{
-    let command = command_of(alloc, 1, "", &[first], &[])?;
-    start_plain(alloc, world, command)?;
-    let command = command_of(alloc, 2, "", &[second], &[])?;
-    start_plain(alloc, world, command)?;
-    Ok(())
-}

@@ -42,10 +42,11 @@ fn written_and_read(rt: HostRuntime) -> Result<(), Fail> {
     assert!(rt; fs::read(&rt, PATH)?.is_empty());
     write_twice(alloc, &mut store)?;
     assert!(rt; fs::read(&rt, PATH)?.as_slice() == b"abcdEFGH".as_slice());
+    assert!(rt; is_read(&mut store, 4, *b"EFGH")?);
+    drop(store);
     let mut second = OsStore::new(&rt);
     assert!(rt; is_read(&mut second, 2, *b"cdEF")?);
     assert_eq!(rt; second.len()?, 8);
-    assert!(rt; is_read(&mut store, 4, *b"EFGH")?);
     leave(&rt, folder)
 }
 
@@ -89,5 +90,26 @@ fn a_device_in_its_place(rt: HostRuntime) -> Result<(), Fail> {
     fs::create_dir_all(&rt, ".turbo")?;
     symlink(&rt, "/dev/null", PATH)?;
     assert!(rt; fails(rt.alloc(), &mut OsStore::new(&rt)));
+    leave(&rt, folder)
+}
+
+// While one device holds the file, another one is an empty store that is read as it is written, and its bytes stay
+// out of the file. Once the first is gone, the file is whole and free.
+#[test]
+fn held_by_another(rt: HostRuntime) -> Result<(), Fail> {
+    let alloc = rt.alloc();
+    let folder = enter(&rt, "held")?;
+    let mut first = OsStore::new(&rt);
+    write_twice(alloc, &mut first)?;
+    let mut second = OsStore::new(&rt);
+    assert_eq!(rt; second.len()?, 0);
+    second.write_at(alloc, 2, b"xy")?;
+    assert!(rt; is_read(&mut second, 0, *b"\0\0xy")?);
+    assert!(rt; is_read(&mut second, 1, *b"\0xy_") == Err(StoreErr::Failed));
+    assert_eq!(rt; second.len()?, 4);
+    second.sync()?;
+    drop(first);
+    assert!(rt; fs::read(&rt, PATH)?.as_slice() == b"abcdEFGH".as_slice());
+    assert!(rt; is_read(&mut OsStore::new(&rt), 4, *b"EFGH")?);
     leave(&rt, folder)
 }

@@ -3,8 +3,7 @@ ghost use Rattle.spawn_dev.specs.Spawn.{IsIdle};
 ghost use Rattle.device_tests.specs.Quiet.{IsQuiet};
 
 use crate::make::{
-    has, is_absent, is_longer, is_run, names_in, next_end, read_at, remove_at, run_scripts,
-    start_two, write_at,
+    has, is_absent, is_longer, is_run, names_in, read_at, remove_at, run_scripts, write_at,
 };
 use os_edge::OsWorld;
 use spawn_dev::Spawner;
@@ -165,29 +164,6 @@ fn programs(rt: HostRuntime) -> Result<(), Fail> {
     let (status, _) = run_scripts(alloc, &mut world, "no", &["tool"], &[])?;
     assert_eq!(rt; status, 127);
     leave(&rt, folder)
-}
-
-fn end_two<W: Spawner>(rt: &impl Abort, alloc: Global, world: &mut W) -> Result<(), DevErr>
-    requires { IsIdle (W.runs world.old) }
-{
-    let (first, second) = ("sleep 0.3; echo one", "head -c 400000 /dev/zero; exit 5");
-    start_two(alloc, world, first, second)?;
-    let first = next_end(rt, alloc, world)?;
-    assert!(rt; first.place == 1 && first.status == 0);
-    assert!(rt; first.log.as_slice() == b"one\n".as_slice());
-    let second = next_end(rt, alloc, world)?;
-    assert!(rt; second.place == 2 && second.status == 5);
-    assert!(rt; second.log.as_slice().len() == 400_000);
-    assert!(rt; world.is_idle());
-    Ok(())
-}
-
-// The second writes more than a pipe holds while the first one runs.
-#[test]
-fn two_at_once(rt: HostRuntime) -> Result<(), Fail> {
-    let alloc = rt.alloc();
-    end_two(&rt, alloc, &mut OsWorld::new(&rt, alloc))?;
-    Ok(())
 }
 
 // A log without an end is a fault, and the command ends.
