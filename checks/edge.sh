@@ -122,8 +122,10 @@ alive() {
     one 'sleep 1; echo hi'
     command -v script >/dev/null || return 0
     script -qec "'$program' build >'$work/out'" "$work/screen" >/dev/null
-    grep -q 'running: ui#build' "$work/screen" && tail -c 4 "$work/screen" | grep -q . 
+    grep -q 'running: ui#build' "$work/screen" || return 1
+    # The last thing is to clear the row.
+    [ "$(sed '/^Script done/d' "$work/screen" | tail -c 5)" = "$(printf '\r\033[K')" ]
 }
-check 'a terminal shows what runs' alive
+check 'a terminal shows what runs, and nothing is left of that' alive
 
 exit $failed

@@ -19,15 +19,17 @@ repository() {
     echo '{"name":"root","version":"1.0.0","workspaces":["packages/*"]}' >package.json
     echo '{"tasks":{"build":{}}}' >turbo.json
     echo '.turbo' >.gitignore
-    local number=0 names='' script
+    local number=0 name names='' script
     : >rules
     while IFS= read -r script; do
         number=$((number + 1))
-        mkdir -p "packages/p$number"
-        printf '{"name":"p%d","version":"1.0.0","scripts":{"build":"%s"}}\n' "$number" "$script" \
-            >"packages/p$number/package.json"
-        printf 'p%d:\n\t@cd packages/p%d && %s >/dev/null\n' "$number" "$number" "$script" >>rules
-        names="$names p$number"
+        # In the order of names, which both begin with.
+        name=$(printf 'p%03d' "$number")
+        mkdir -p "packages/$name"
+        printf '{"name":"%s","version":"1.0.0","scripts":{"build":"%s"}}\n' "$name" "$script" \
+            >"packages/$name/package.json"
+        printf '%s:\n\t@cd packages/%s && %s >/dev/null\n' "$name" "$name" "$script" >>rules
+        names="$names $name"
     done
     { echo ".PHONY: all$names"; echo "all:$names"; cat rules; } >Makefile
 }

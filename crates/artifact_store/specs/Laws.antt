@@ -5,6 +5,7 @@ use Rattle.store_dev.specs.declared.device.StoreDevice.{Ghosts}
 use Rattle.cache_api.specs.Pairs.{Pair}
 use Rattle.record_log.specs.Kinds.{Entry}
 use Rattle.record_log.specs.Frames.{reading, frames_of}
+use Rattle.record_log.specs.declared.mark.LogMark.{LogMark}
 use Rattle.record_log.specs.Kept.{Kept}
 use Rattle.record_log.specs.Several.{images_read}
 use Rattle.artifact_store.specs.declared.store.Store.{Store}
@@ -15,7 +16,7 @@ pub stands_is : (bytes : List ℕ) (es : List Entry) → reading bytes ≡ Ok es
 unfolding stands_for
 stands_is bytes es is = rw (is, stands_for) refl
 
-pub images_stand : {bytes : List ℕ} {images : List ℕ → Type 0} {offsets : List ℕ} {end : ℕ} → Kept bytes images offsets end → (c : List ℕ) → images c → stands_for c ≡ Some (pairs_in (frames_of bytes))
+pub images_stand : {bytes : List ℕ} {images : List ℕ → Type 0} {mark : LogMark} → Kept bytes images mark → (c : List ℕ) → images c → stands_for c ≡ Some (pairs_in (frames_of bytes))
 images_stand kept c now = stands_is c _ (images_read kept c now)
 
 -- what a crash leaves of a store, it leaves of its device

@@ -17,16 +17,18 @@ ghost use Rattle.cache_api.specs.Pairs.{pair_for};
 ghost use Rattle.cache_api.specs.Cache.{is_fault, IsFindErr, PairsAfter};
 ghost use Rattle.artifact_store.specs.Pairs.{pair_of, pairs_in, frame_for};
 ghost use Rattle.artifact_store.specs.Answers.{WholeAfter};
+ghost use Rattle.artifact_store.specs.Store.{pair_room};
 
+use crate::room::LEFT_FREE;
 use cache_api::{Artifact, CacheErr, owns_all};
 use globs::OutSet;
-use record_log::{Frame, Log, LogErr};
+use record_log::{Frame, Log, LogErr, PAIR};
 use sha2::{Digest, Sha256};
 use std::alloc::Global;
 use store_dev::StoreDevice;
 
-/// The kind of a frame that stands for a pair by itself.
-const PAIR: u8 = 1;
+// What a frame takes beside key and value: its kind, both lengths, and the gate behind it.
+const BESIDE: u64 = 10;
 
 /// The frame with that number.
 pub(crate) fn frame_at<S: StoreDevice>(
@@ -90,6 +92,13 @@ fn owned(alloc: Global, value: &[u8], outs: &OutSet) -> Result<Option<Artifact>,
     Ok(None)
 }
 
+/// How many bytes more the frames of pairs may take.
+pub(crate) fn pair_room<S: StoreDevice>(log: &Log<S>) -> u64
+    ensures { result ≡ pair_room log.now }
+{
+    log.room().saturating_sub(LEFT_FREE)
+}
+
 /// How many bytes the frame of a pair takes, with the gate behind it, or 2^64 - 1 where that is more.
 pub(crate) fn need_for(key: &[u8], artifact: &Artifact) -> u64
     ensures { result ≡ room_for (frame_for (pair_for key.now (held artifact.now))) }
@@ -97,7 +106,7 @@ pub(crate) fn need_for(key: &[u8], artifact: &Artifact) -> u64
     let key_len = key.len() as u64;
     key_len
         .saturating_add(artifact.text_len())
-        .saturating_add(10)
+        .saturating_add(BESIDE)
 }
 
 /// Adds the frame of a pair, for which there is room.
@@ -108,7 +117,7 @@ pub(crate) fn append<S: StoreDevice>(
     value: &[u8],
 ) -> Result<(), CacheErr>
     requires whole { IsTrue (is_whole log.old) }
-    requires fits { room_for (frame_for (key.now, value.now)) ≤ room_of log.old }
+    requires fits { room_for (frame_for (key.now, value.now)) ≤ pair_room log.old }
     ensures frames { S.tells → OnOk result (frames_in log.new ≡ frames_in log.old ++ frame_for (key.now, value.now) ∷ []) }
     ensures pairs { S.tells → PairsAfter result (pairs_in (frames_in log.old)) (key.now, value.now) (pairs_in (frames_in log.new)) }
     ensures count { count_of log.old ≤ count_of log.new }

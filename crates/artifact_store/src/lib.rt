@@ -8,6 +8,7 @@
 
 mod error;
 mod frames;
+mod room;
 mod store;
 
 pub use error::OpenErr;

@@ -8,7 +8,7 @@ ghost use Rattle.artifact_store.specs.Prints.{AreFirst};
 
 use crate::OpenErr;
 use crate::error::open_err;
-use crate::frames::{append, frame_at, given, need_for, print_of};
+use crate::frames::{append, frame_at, given, need_for, pair_room, print_of};
 use cache_api::{Artifact, Cache, CacheErr};
 use globs::OutSet;
 use record_log::{Frame, Log, Unopened};
@@ -185,7 +185,7 @@ impl<S: StoreDevice> Cache for Store<S> {
         ensures whole { WholeAfter result (state_of self.old).whole (state_of self.new).whole }
         ensures cause { Counts is_fault (state_of self.old).faults (state_of self.new).faults result }
     {
-        if need_for(key, artifact) > self.log.room() {
+        if need_for(key, artifact) > pair_room(&self.log) {
             return Err(CacheErr::Full);
         }
         let text = artifact.text(alloc)?;

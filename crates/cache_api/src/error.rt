@@ -2,7 +2,6 @@
 ghost use Rattle.std.specs.Prelude.{◌≡◌};
 ghost use Rattle.cache_api.specs.declared.error.CacheErr.TheVariants.{OutOfMemory};
 
-use rel_path::PathErr;
 use std::alloc::{AllocError, AllocFailed};
 use thiserror::Error;
 
@@ -31,15 +30,6 @@ impl<T: Drop> From<AllocFailed<T>> for CacheErr {
     ghost from_gives = { λ _ e. e ≡ OutOfMemory };
 
     fn from(_error: AllocFailed<T>) -> CacheErr {
-        CacheErr::OutOfMemory
-    }
-}
-
-/// For calls of `rel_path` that fail for want of memory alone.
-impl From<PathErr> for CacheErr {
-    ghost from_gives = { λ _ e. e ≡ OutOfMemory };
-
-    fn from(_error: PathErr) -> CacheErr {
         CacheErr::OutOfMemory
     }
 }

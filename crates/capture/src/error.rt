@@ -3,7 +3,8 @@ ghost use Rattle.std.specs.Prelude.{◌≡◌};
 ghost use Rattle.capture.specs.declared.error.CapErr.TheVariants.{Failed, OutOfMemory};
 ghost use Rattle.capture.specs.Cause.{as_device};
 
-use rel_path::{PathErr, RelPath};
+use rel_path::RelPath;
+use std::alloc::AllocError;
 use thiserror::Error;
 use tree_dev::DevErr;
 use tree_walk::WalkErr;
@@ -24,11 +25,10 @@ pub enum CapErr {
     OutOfMemory,
 }
 
-// For calls whose only error is want of memory.
-impl From<PathErr> for CapErr {
+impl From<AllocError> for CapErr {
     ghost from_gives = { λ _ e. e ≡ OutOfMemory };
 
-    fn from(_error: PathErr) -> CapErr {
+    fn from(_error: AllocError) -> CapErr {
         CapErr::OutOfMemory
     }
 }

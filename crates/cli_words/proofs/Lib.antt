@@ -1,7 +1,4 @@
-mod Cuts
-mod Widths
-mod Spellings
-mod ReadOn
-mod Uses
-mod Steps
-mod Bounds
+mod Marks
+mod Numbers
+mod Walk
+mod Limits

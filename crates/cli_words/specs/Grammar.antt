@@ -1,82 +1,79 @@
--- How the words of a run are cut into tasks, options with their values, and extra words: long options as GNU's getopt_long has them, in full and
--- anywhere among the tasks. In front of the first `--` all is options and tasks, so `--` is never an option's value.
-use Rattle.std.specs.Prelude.{ℕ, ◌+◌, Bool, false, ◌==◌, nat_lt, List, [], ◌∷◌, length, Option, Some, None, if◌then◌else◌, codes, bytes_eq}
+-- How the words of a command are cut into names, options with their values, and extra words: long options as GNU's
+-- getopt_long has them, in full and anywhere among the names.
+use Rattle.std.specs.Prelude.{ℕ, Bool, zero, suc, ◌+◌, ◌==◌, nat_lt, List, [], ◌∷◌, length, Option, Some, None, if◌then◌else◌, codes, bytes_eq}
 use Rattle.std.specs.Option.{option_map}
-use Rattle.cli_words.specs.declared.options.Slot.{Slot}
-use Rattle.cli_words.specs.Options.{slot_of, takes_word, begins_with}
+use Rattle.key_table.specs.declared.row.Kind.{Kind}
+use Rattle.key_table.specs.Entry.{Entry, entry_named}
+use Rattle.cli_words.specs.declared.options.Command.{Command}
+use Rattle.cli_words.specs.Options.{options_of, takes_word, is_top}
+use Rattle.cli_words.specs.Cuts.{begins_with, before, behind, dash, equals}
 
--- ---- around the first `--`
-
-abbrev pub is_end : List ℕ → Bool
-is_end word = bytes_eq word (codes "--")
-
--- the words in front of it: all where there is none
-unfoldable pub before_end : List (List ℕ) → List (List ℕ)
-before_end [] = []
-before_end (word ∷ words) = if is_end word then [] else word ∷ before_end words
-
--- the words behind it
-unfoldable pub behind_end : List (List ℕ) → List (List ℕ)
-behind_end [] = []
-behind_end (word ∷ words) = if is_end word then words else behind_end words
+-- What a word is, with the words behind it that belong to it.
+pub data Item : Type 0 where
+  -- begins with no `-`
+  Bare : List ℕ → Item
+  -- an option, by its kind and place, with its value where one is given
+  Used : Kind → ℕ → Option (List ℕ) → Item
+  -- `--`, with all words behind it
+  Extra : List (List ℕ) → Item
+  -- begins with `-` and is no option
+  Stray : Item
 
 -- ---- a word
 
--- in front of the first `=`
-unfoldable pub before_equals : List ℕ → List ℕ
-before_equals [] = []
-before_equals (b ∷ rest) = if b == 61 then [] else b ∷ before_equals rest
-
--- behind it, where there is one
-unfoldable pub behind_equals : List ℕ → Option (List ℕ)
-behind_equals [] = None
-behind_equals (b ∷ rest) = if b == 61 then Some rest else behind_equals rest
+abbrev pub beside : Option (List ℕ) → Entry → Entry × Option (List ℕ)
+beside value option = (option, value)
 
 -- a spelling of more than the two bytes of `-F` and `--`; only such a one has a value behind a `=`
 abbrev pub is_long : List ℕ → Bool
 is_long name = nat_lt 2 (length name)
 
-abbrev pub with_value : List ℕ → Option (List ℕ) → Option (Slot × Option (List ℕ))
-with_value name None = option_map (λ slot. (slot, None)) (slot_of name)
-with_value name (Some value) = if is_long name then option_map (λ slot. (slot, Some value)) (slot_of name) else None
+abbrev pub named : Command → List ℕ → Option (List ℕ) → Option (Entry × Option (List ℕ))
+named command name None = option_map (beside None) (entry_named name (options_of command))
+named command name (Some value) = if is_long name then option_map (beside (Some value)) (entry_named name (options_of command)) else None
 
--- what the word fills, and the value behind its `=`
-unfoldable pub option_in : List ℕ → Option (Slot × Option (List ℕ))
-option_in word = with_value (before_equals word) (behind_equals word)
+-- the option that the word is, and the value behind its `=`
+unfoldable pub option_in : Command → List ℕ → Option (Entry × Option (List ℕ))
+option_in command word = named command (before equals word) (behind equals word)
 
--- What a word is, with the next one where that is its value.
-pub data Item : Type 0 where
-  Task : List ℕ → Item
-  -- an option, with its value where one is given
-  Used : Slot → Option (List ℕ) → Item
-  -- begins with `-` and is no option
-  Stray : Item
+-- ---- the words behind it
 
-abbrev pub as_option : Option (Slot × Option (List ℕ)) → Item
-as_option None = Stray
-as_option (Some (slot, value)) = Used slot value
+abbrev pub is_end : List ℕ → Bool
+is_end word = bytes_eq word (codes "--")
 
--- the word alone; an option begins with `-`
-unfoldable pub item_of : List ℕ → Item
-item_of word = if begins_with 45 word then as_option (option_in word) else Task word
+-- the next word where it may be a value
+abbrev pub next_value : List (List ℕ) → Option (List ℕ)
+next_value [] = None
+next_value (next ∷ words) = if is_end next then None else Some next
+
+abbrev pub count : Option (List ℕ) → ℕ
+count None = 0
+count (Some value) = 1
+
+-- the value of an option, and how many words behind it that takes: the text behind its `=`, or the next word
+abbrev pub value_of : Kind → Option (List ℕ) → List (List ℕ) → Option (List ℕ) × ℕ
+value_of kind (Some value) words = (Some value, 0)
+value_of kind None words = if takes_word kind then (next_value words, count (next_value words)) else (None, 0)
+
+abbrev pub used : Entry → Option (List ℕ) × ℕ → Item × ℕ
+used option value = (Used option.kind option.place value.0, value.1)
+
+abbrev pub as_item : Option (Entry × Option (List ℕ)) → List (List ℕ) → Item × ℕ
+as_item None words = (Stray, 0)
+as_item (Some (option, value)) words = if is_top option.kind then (Extra words, length words) else used option (value_of option.kind value words)
+
+-- the item that begins with this word, and how many of the words behind it belong to it
+unfoldable pub first_item : Command → List ℕ → List (List ℕ) → Item × ℕ
+first_item command word words = if begins_with dash word then as_item (option_in command word) words else (Bare word, 0)
 
 -- ---- items
 
--- an option without a `=` that takes the next word
-abbrev pub wants_word : Item → Bool
-wants_word (Task name) = false
-wants_word (Used slot None) = takes_word slot
-wants_word (Used slot (Some value)) = false
-wants_word Stray = false
+-- The items of the words behind the first ones, of which so many belong to an item before, each with the place of its first
+-- word. The first word has the place `at`.
+unfoldable pub items_behind : Command → ℕ → ℕ → List (List ℕ) → List (ℕ × Item)
+items_behind command taken at [] = []
+items_behind command zero at (word ∷ words) = (at, (first_item command word words).0) ∷ items_behind command (first_item command word words).1 (at + 1) words
+items_behind command (suc taken) at (word ∷ words) = items_behind command taken (at + 1) words
 
--- the item with the next word as its value
-abbrev pub given : Item → List ℕ → Item
-given (Task name) word = Task name
-given (Used slot value) word = Used slot (Some word)
-given Stray word = Stray
-
--- the items of the words in front of `--`, each with the place of its first word; the first word has the place `at`
-unfoldable pub items : ℕ → List (List ℕ) → List (ℕ × Item)
-items at [] = []
-items at (word ∷ []) = (at, item_of word) ∷ []
-items at (word ∷ next ∷ words) = if wants_word (item_of word) then (at, given (item_of word) next) ∷ items (at + 2) words else (at, item_of word) ∷ items (at + 1) (next ∷ words)
+abbrev pub items : Command → ℕ → List (List ℕ) → List (ℕ × Item)
+items command at words = items_behind command 0 at words

@@ -1,7 +1,8 @@
+pub mod Cuts
 pub mod Options
+pub mod Values
 pub mod Grammar
 pub mod Orders
 pub mod Answers
-pub mod Table
-pub mod Reading
+pub mod Seen
 pub mod Laws

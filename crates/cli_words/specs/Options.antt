@@ -1,126 +1,72 @@
--- The options of a run: their spellings, what each fills, and which values each allows (Turborepo's documentation of `turbo run`).
-use Rattle.std.specs.Prelude.{ℕ, Bool, true, false, not, ◌==◌, ◌&&◌, nat_lt, nat_le, List, [], ◌∷◌, length, Option, Some, None, is_some, option_and_then, if◌then◌else◌, codes, bytes_eq}
-use Rattle.std.specs.Map.{lookup}
-use Rattle.std.specs.Char.{is_ascii_digit}
-use Rattle.std.specs.List.{list_all}
-use Rattle.std.specs.Str.Parse.{digits_value}
-use Rattle.cli_words.specs.declared.options.Slot.{Slot}
-use Rattle.cli_words.specs.declared.options.Slot.TheVariants.{Filters, Width, Logs, EnvMode, KeepOn, Dry, Force, Args}
-use Rattle.cli_words.specs.declared.order.LogWord.{LogWord}
-use Rattle.cli_words.specs.declared.order.LogWord.TheVariants.{Full, HashOnly, NewOnly, ErrorsOnly, Silent}
-use Rattle.cli_words.specs.declared.order.EnvWord.{EnvWord}
-use Rattle.cli_words.specs.declared.order.EnvWord.TheVariants.{Strict, Loose}
-use Rattle.cli_words.specs.declared.order.KeepOn as order
-use Rattle.cli_words.specs.declared.order.KeepOn.TheVariants.{Never, DependenciesSuccessful}
+-- The options of each command: spellings, kinds and places (Turborepo's documentation of `turbo run` and `turbo prune`).
+use Rattle.std.specs.Prelude.{ℕ, Bool, true, false, List, [], ◌∷◌, codes}
+use Rattle.key_table.specs.declared.row.Kind.{Kind}
+use Rattle.key_table.specs.declared.row.Kind.TheVariants.{Flag, Word, Words, Number, Choice, Top}
+use Rattle.key_table.specs.Entry.{Entry}
+use Rattle.cli_words.specs.declared.options.Command.{Command}
+use Rattle.cli_words.specs.declared.options.Command.TheVariants.{Run, Prune, Compact}
+use Rattle.cli_words.specs.declared.options.TheConstants.{FILTERS, WIDTH, LOGS, ENV_MODE, KEEP_ON, DRY, FORCE, CACHE, SHARED, ARGS, DOCKER, KEEP}
 
--- ---- spellings
+abbrev pub spelling : List ℕ → Kind → ℕ → Entry
+spelling name kind place = record { name = name; kind = kind; place = place }
 
--- the spellings, each with what it fills; `--` is for the extra words
-abbrev pub spellings : List (List ℕ × Slot)
-spellings =
-    (codes "--filter", Filters)
-    ∷ (codes "-F", Filters)
-    ∷ (codes "--concurrency", Width)
-    ∷ (codes "--output-logs", Logs)
-    ∷ (codes "--env-mode", EnvMode)
-    ∷ (codes "--continue", KeepOn)
-    ∷ (codes "--dry", Dry)
-    ∷ (codes "--dry-run", Dry)
-    ∷ (codes "--force", Force)
-    ∷ (codes "--", Args)
+-- of a run; `--` is for the extra words
+abbrev pub run_options : List Entry
+run_options =
+    spelling (codes "--filter") Words FILTERS
+    ∷ spelling (codes "-F") Words FILTERS
+    ∷ spelling (codes "--concurrency") Number WIDTH
+    ∷ spelling (codes "--output-logs") Choice LOGS
+    ∷ spelling (codes "--env-mode") Choice ENV_MODE
+    ∷ spelling (codes "--continue") Flag KEEP_ON
+    ∷ spelling (codes "--dry") Flag DRY
+    ∷ spelling (codes "--dry-run") Flag DRY
+    ∷ spelling (codes "--force") Flag FORCE
+    ∷ spelling (codes "--cache") Word CACHE
+    ∷ spelling (codes "--shared") Flag SHARED
+    ∷ spelling (codes "--") Top ARGS
     ∷ []
 
-unfoldable pub slot_of : List ℕ → Option Slot
-slot_of name = lookup (λ spelling. bytes_eq spelling name) spellings
+abbrev pub prune_options : List Entry
+prune_options = spelling (codes "--docker") Flag DOCKER ∷ []
 
--- the value may be the next word; that of `--continue` stands behind a `=` alone
-abbrev pub takes_word : Slot → Bool
-takes_word Filters = true
-takes_word Width = true
-takes_word Logs = true
-takes_word EnvMode = true
-takes_word KeepOn = false
-takes_word Dry = false
-takes_word Force = false
-takes_word Args = false
+abbrev pub compact_options : List Entry
+compact_options = spelling (codes "--keep") Number KEEP ∷ []
 
--- ---- values
+abbrev pub options_of : Command → List Entry
+options_of Run = run_options
+options_of Prune = prune_options
+options_of Compact = compact_options
 
-abbrev pub begins_with : ℕ → List ℕ → Bool
-begins_with mark [] = false
-begins_with mark (b ∷ rest) = b == mark
+-- the command works on what it is given by name, and wants at least one
+abbrev pub takes_names : Command → Bool
+takes_names Run = true
+takes_names Prune = true
+takes_names Compact = false
 
--- decimal digits without sign or leading zero
-abbrev pub is_numeral : List ℕ → Bool
-is_numeral text = nat_lt 0 (length text) && list_all is_ascii_digit text && not (begins_with 48 text)
+-- the value may be the next word; that of a flag stands behind a `=` alone
+abbrev pub takes_word : Kind → Bool
+takes_word Flag = false
+takes_word Word = true
+takes_word Words = true
+takes_word Number = true
+takes_word Choice = true
+takes_word Top = false
 
--- a numeral from 1 to 1024
-unfoldable pub width : List ℕ → Option ℕ
-width text = if is_numeral text && nat_le 1 (digits_value 10 text) && nat_le (digits_value 10 text) 1024 then Some (digits_value 10 text) else None
+-- the option may stand again
+abbrev pub may_repeat : Kind → Bool
+may_repeat Flag = false
+may_repeat Word = false
+may_repeat Words = true
+may_repeat Number = false
+may_repeat Choice = false
+may_repeat Top = false
 
-abbrev pub log_word : List ℕ → Option LogWord
-log_word text =
-    if bytes_eq text (codes "full") then Some Full
-    else (if bytes_eq text (codes "hash-only") then Some HashOnly
-    else (if bytes_eq text (codes "new-only") then Some NewOnly
-    else (if bytes_eq text (codes "errors-only") then Some ErrorsOnly
-    else (if bytes_eq text (codes "none") then Some Silent else None))))
-
-abbrev pub env_word : List ℕ → Option EnvWord
-env_word text = if bytes_eq text (codes "strict") then Some Strict else (if bytes_eq text (codes "loose") then Some Loose else None)
-
-abbrev pub keep_on : List ℕ → Option order.KeepOn
-keep_on text = if bytes_eq text (codes "never") then Some Never else (if bytes_eq text (codes "dependencies-successful") then Some DependenciesSuccessful else None)
-
--- what the value given to each option says; nothing where it is missing or not allowed
-abbrev pub width_in : Option (List ℕ) → Option ℕ
-width_in given = option_and_then width given
-
-abbrev pub logs_in : Option (List ℕ) → Option LogWord
-logs_in given = option_and_then log_word given
-
-abbrev pub env_word_in : Option (List ℕ) → Option EnvWord
-env_word_in given = option_and_then env_word given
-
-abbrev pub keep_on_in : Option (List ℕ) → Option order.KeepOn
-keep_on_in given = option_and_then keep_on given
-
--- an option without a value
-abbrev pub flag_in : Option (List ℕ) → Option Bool
-flag_in None = Some true
-flag_in (Some value) = None
-
--- the value is there and allowed, or there is none at an option without one; any text is a filter
-abbrev pub is_allowed : Slot → Option (List ℕ) → Bool
-is_allowed Filters given = is_some given
-is_allowed Width given = is_some (width_in given)
-is_allowed Logs given = is_some (logs_in given)
-is_allowed EnvMode given = is_some (env_word_in given)
-is_allowed KeepOn given = is_some (keep_on_in given)
-is_allowed Dry given = is_some (flag_in given)
-is_allowed Force given = is_some (flag_in given)
-is_allowed Args given = true
-
--- Only a filter may stand again. (What follows the first `--` is no option.)
-abbrev pub may_repeat : Slot → Bool
-may_repeat Filters = true
-may_repeat Width = false
-may_repeat Logs = false
-may_repeat EnvMode = false
-may_repeat KeepOn = false
-may_repeat Dry = false
-may_repeat Force = false
-may_repeat Args = true
-
-abbrev pub place_of : Slot → ℕ
-place_of Filters = 0
-place_of Width = 1
-place_of Logs = 2
-place_of EnvMode = 3
-place_of KeepOn = 4
-place_of Dry = 5
-place_of Force = 6
-place_of Args = 7
-
-abbrev pub same_slot : Slot → Slot → Bool
-same_slot a b = place_of a == place_of b
+-- it ends the options
+abbrev pub is_top : Kind → Bool
+is_top Flag = false
+is_top Word = false
+is_top Words = false
+is_top Number = false
+is_top Choice = false
+is_top Top = true

@@ -2,23 +2,25 @@
 ghost use Rattle.std.specs.Prelude.{◌≡◌};
 ghost use Rattle.std.specs.List.{list_all};
 ghost use Rattle.std.specs.Char.{is_ascii_digit};
-ghost use Rattle.cli_words.specs.Options.{begins_with, width, log_word, env_word, keep_on, width_in, logs_in, env_word_in, keep_on_in, flag_in};
-ghost use Rattle.cli_words.specs.Table.{seen};
+ghost use Rattle.cli_words.specs.Values.{is_numeral, number, log_word, env_word, keep_on, sample_size, width_in, keep_in, logs_in, env_word_in, keep_on_in, access_in, is_dry_form, is_allowed};
+ghost use Rattle.cli_words.specs.Seen.{seen};
 
-use crate::{EnvWord, KeepOn, LogWord};
+use crate::access::access;
+use crate::cuts::begins_with;
+use crate::options::{CACHE, DRY, ENV_MODE, FILTERS, KEEP, KEEP_ON, LOGS, WIDTH};
+use crate::{Access, EnvWord, KeepOn, LogWord};
+use rel_path::limits::MAX_WIDTH;
 
-/// The most commands that may run at once.
-const MAX_WIDTH: u32 = 1024;
+/// The fewest commands that may run at once.
+const MIN_WIDTH: u32 = 1;
 
-/// Whether the first byte is this one.
-pub fn begins_with(text: &str, mark: u8) -> bool
-    ensures { result ≡ begins_with mark text.now }
-{
-    match text.as_bytes().split_first() {
-        Some((first, _rest)) => *first == mark,
-        None => false,
-    }
-}
+const MIN_SAMPLE: u32 = 1;
+
+const MAX_SAMPLE: u32 = 400;
+
+const MIN_KEEP: u32 = 0;
+
+const MAX_KEEP: u32 = 1_000_000;
 
 fn are_digits(text: &str) -> bool
     ensures { result ≡ list_all is_ascii_digit text.now }
@@ -26,21 +28,36 @@ fn are_digits(text: &str) -> bool
     text.as_bytes().iter().all(|b| b.is_ascii_digit())
 }
 
-#[tactic(auto, unfolding(crate::specs::Options::width))]
-fn width(text: &str) -> Option<u32>
-    ensures { result ≡ width text.now }
+/// Whether the text is a number without sign or leading zero.
+fn is_numeral(text: &str) -> bool
+    ensures { result ≡ is_numeral text.now }
 {
-    if !are_digits(text) || begins_with(text, b'0') {
+    !text.is_empty() && are_digits(text) && (text.len() == 1 || !begins_with(text, b'0'))
+}
+
+/// The number that the text writes without sign or leading zero, if it is within these.
+#[tactic(auto, unfolding(crate::specs::Values::number))]
+fn number(text: &str, least: u32, most: u32) -> Option<u32>
+    ensures { result ≡ number least most text.now }
+{
+    if !is_numeral(text) {
         return None;
     }
-    let Ok(width) = text.parse::<u32>() else {
+    let Ok(number) = text.parse::<u32>() else {
         return None;
     };
-    if 1 <= width && width <= MAX_WIDTH {
-        Some(width)
+    if least <= number && number <= most {
+        Some(number)
     } else {
         None
     }
+}
+
+/// The size that the word behind `sample` gives.
+pub(crate) fn sample_size(text: &str) -> Option<u32>
+    ensures { result ≡ sample_size text.now }
+{
+    number(text, MIN_SAMPLE, MAX_SAMPLE)
 }
 
 fn log_word(text: &str) -> Option<LogWord>
@@ -72,44 +89,80 @@ fn keep_on(text: &str) -> Option<KeepOn>
     match text {
         "never" => Some(KeepOn::Never),
         "dependencies-successful" => Some(KeepOn::DependenciesSuccessful),
+        "always" => Some(KeepOn::Always),
         _ => None,
     }
 }
 
 /// The width that `--concurrency` gives.
-pub fn width_in(given: Option<&str>) -> Option<u32>
+pub(crate) fn width_in(given: Option<&str>) -> Option<u32>
     ensures { result ≡ width_in (seen given.entry) }
 {
-    width(given?)
+    number(given?, MIN_WIDTH, MAX_WIDTH)
+}
+
+/// How many `--keep` gives.
+pub(crate) fn keep_in(given: Option<&str>) -> Option<u64>
+    ensures { result ≡ keep_in (seen given.entry) }
+{
+    let kept = number(given?, MIN_KEEP, MAX_KEEP)?;
+    Some(u64::from(kept))
 }
 
 /// The lines that `--output-logs` gives.
-pub fn logs_in(given: Option<&str>) -> Option<LogWord>
+pub(crate) fn logs_in(given: Option<&str>) -> Option<LogWord>
     ensures { result ≡ logs_in (seen given.entry) }
 {
     log_word(given?)
 }
 
 /// What `--env-mode` gives.
-pub fn env_word_in(given: Option<&str>) -> Option<EnvWord>
+pub(crate) fn env_word_in(given: Option<&str>) -> Option<EnvWord>
     ensures { result ≡ env_word_in (seen given.entry) }
 {
     env_word(given?)
 }
 
 /// What `--continue` gives.
-pub fn keep_on_in(given: Option<&str>) -> Option<KeepOn>
+pub(crate) fn keep_on_in(given: Option<&str>) -> Option<KeepOn>
     ensures { result ≡ keep_on_in (seen given.entry) }
 {
-    keep_on(given?)
+    match given {
+        None => Some(KeepOn::Always),
+        Some(text) => keep_on(text),
+    }
 }
 
-/// An option without a value: given one, it gives nothing.
-pub fn flag_in(given: Option<&str>) -> Option<bool>
-    ensures { result ≡ flag_in (seen given.entry) }
+/// The stores that `--cache` gives.
+pub(crate) fn access_in(given: Option<&str>) -> Option<Access>
+    ensures { result ≡ access_in (seen given.entry) }
+{
+    access(given?)
+}
+
+/// Whether a dry run is printed in this form.
+fn is_dry_form(given: Option<&str>) -> bool
+    ensures { result ≡ is_dry_form (seen given.entry) }
 {
     match given {
-        None => Some(true),
-        Some(_) => None,
+        None => true,
+        Some(form) => form == "text",
+    }
+}
+
+/// Whether the option at this place may have the value that it is given.
+pub(crate) fn is_allowed(place: u8, given: Option<&str>) -> bool
+    ensures { result ≡ is_allowed place (seen given.entry) }
+{
+    match place {
+        FILTERS => given.is_some(),
+        WIDTH => width_in(given).is_some(),
+        LOGS => logs_in(given).is_some(),
+        ENV_MODE => env_word_in(given).is_some(),
+        KEEP_ON => keep_on_in(given).is_some(),
+        CACHE => access_in(given).is_some(),
+        KEEP => keep_in(given).is_some(),
+        DRY => is_dry_form(given),
+        _ => given.is_none(),
     }
 }

@@ -1,6 +1,6 @@
 -- Bytes of values, and what is read back from the front of bytes.
 use Rattle.std.specs.Prelude.{◌≡◌, ◌<◌, ℕ, zero, suc, ◌^◌, nat_lt, if◌then◌else◌, List, [], ◌∷◌, ◌++◌, length, take, drop, get_or, Option, Some, None}
-use Rattle.std.specs.Int.{w32, to_le_bytes, from_le_bytes}
+use Rattle.std.specs.Int.{w32, w64, to_le_bytes, from_le_bytes}
 
 abbrev pub AreBytes : List ℕ → Type 0
 AreBytes bytes = (i : ℕ) → get_or bytes i 0 < 256
@@ -75,6 +75,37 @@ Each Fits (x ∷ xs) = Fits x × Each Fits xs
 
 pub record IsList {A : Type 0} (Fits : A → Type 0) (xs : List A) : Type 0 where
   pub short : IsShort xs
+  pub each : Each Fits xs
+
+-- ---- the same where a number takes eight bytes
+
+unfoldable pub long_word : ℕ → List ℕ
+long_word n = to_le_bytes w64 n
+
+abbrev pub IsLongWord : ℕ → Type 0
+IsLongWord n = n < 2 ^ 64
+
+unfoldable pub read_long_word : List ℕ → Taken ℕ
+read_long_word bytes =
+    if nat_lt (length bytes) 8 then None else Some (from_le_bytes w64 (take 8 bytes), drop 8 bytes)
+
+unfoldable pub long_str : List ℕ → List ℕ
+long_str x = long_word (length x) ++ x
+
+abbrev pub IsLong : {A : Type 0} → List A → Type 0
+IsLong x = length x < 2 ^ 64
+
+unfoldable pub read_long_str : List ℕ → Taken (List ℕ)
+read_long_str bytes = then_read (read_long_word bytes) read_bytes
+
+unfoldable pub long_list : {A : Type 0} → (A → List ℕ) → List A → List ℕ
+long_list code xs = long_word (length xs) ++ items code xs
+
+unfoldable pub read_long_list : {A : Type 0} → (List ℕ → Taken A) → List ℕ → Taken (List A)
+read_long_list read bytes = then_read (read_long_word bytes) (λ n rest. read_items read [] n rest)
+
+pub record IsLongList {A : Type 0} (Fits : A → Type 0) (xs : List A) : Type 0 where
+  pub short : IsLong xs
   pub each : Each Fits xs
 
 -- one value and then another

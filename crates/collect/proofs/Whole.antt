@@ -33,7 +33,8 @@ use Rattle.collect.specs.Parts.{IsPart, Uses, takes_input, scripts_of}
 use Rattle.std.proofs.lemmas.List.{length-map}
 use Rattle.std.proofs.lemmas.Option.{slice_get_within}
 use Rattle.collect.specs.Listings.{ArePaired, with_bytes, is_needed, takes_in, takes_by, needed, IsListing}
-use Rattle.collect.specs.Refusals.{FindsAll, IsMissingOf, IsFirstMissing, is_large, first_large, large_file, total_bytes, Fits, Collects, sum_limit}
+use Rattle.collect.specs.Refusals.{FindsAll, IsMissingOf, IsFirstMissing, is_large, first_large, large_file, total_bytes, Fits, Collects}
+use Rattle.rel_path.specs.Limits.{sum_limit}
 use Rattle.collect.specs.Steps.{IsTaskOf, UsesAt, FindsAt, MissesFirst, known, known_if, large_at, is_large_at, in_row, marked_files, GathersAll, Gathers, ReadsAll, Plans, inputs_at, out_set_by, IsMade, IsMadeOf, AreMade, jobs, IsPlan, AreRows, rules_file, ReadsSome, GathersSome, never}
 use Rattle.collect.proofs.Lists.{paired_at, paired_back, paired_from, paired_length, paired_before, paired_all, all_map, list_at, got}
 use Rattle.collect.proofs.Readings.{last_name}

@@ -4,6 +4,7 @@ use Rattle.std.specs.List.{AllByRecursion, slice_get}
 use Rattle.serde_json.specs.Data.{Data}
 use Rattle.rel_path.specs.Paths.{Path}
 use Rattle.rel_path.specs.Files.{FileMap}
+use Rattle.rel_path.specs.Limits.{file_limit, sum_limit}
 use Rattle.npm_lock.specs.declared.error.ExtErr.TheVariants.{Missing as missing_name}
 use Rattle.npm_lock.specs.Externals.{Externals}
 use Rattle.workspaces.specs.declared.member.Package.{Package}
@@ -19,14 +20,6 @@ use Rattle.collect.specs.Parts.{starts_of, Uses}
 use Rattle.collect.specs.Listings.{needed, with_bytes, IsListing}
 
 -- ---- limits
-
--- the most bytes of a file that is read: 16 MiB
-abbrev pub file_limit : ℕ
-file_limit = 16777216
-
--- the most bytes of all input files together: 64 MiB
-abbrev pub sum_limit : ℕ
-sum_limit = 67108864
 
 -- ---- refusals
 

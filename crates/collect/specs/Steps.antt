@@ -28,7 +28,8 @@ use Rattle.collect.specs.declared.collecting.Rows.{Rows}
 use Rattle.collect.specs.Tasks.{package_named}
 use Rattle.collect.specs.Parts.{scripts_of, Uses}
 use Rattle.collect.specs.Listings.{ArePaired, with_bytes}
-use Rattle.collect.specs.Refusals.{is_large, first_large, sum_limit, IsMissingOf}
+use Rattle.collect.specs.Refusals.{is_large, first_large, IsMissingOf}
+use Rattle.rel_path.specs.Limits.{sum_limit}
 
 abbrev pub OnlyMemory : {T : Type 0} → Result T CollectErr → Type 0
 OnlyMemory result = IfErr result (λ e. e ≡ OutOfMemory)

@@ -24,13 +24,14 @@ ghost use Rattle.collect.specs.Steps.{OnlyMemory, Plans, AreRows, rules_file};
 use crate::laws::listing_law;
 use crate::marks::marks_of;
 use crate::parts::all_parts;
-use crate::reading::{SUM_LIMIT, gather, read_all, rule_paths};
+use crate::reading::{gather, read_all, rule_paths};
 use crate::rules::stack_of;
 use crate::tasks::defined_tasks;
 use crate::uses::all_uses;
 use crate::{CollectErr, Wanted};
 use listing::Listing;
 use npm_lock::Lock;
+use rel_path::limits::MAX_INPUT_BYTES;
 use rel_path::{Files, Pairs, Paths, Places, Text};
 use std::alloc::Global;
 use task_inputs::{Declared, DefinedTask, input_places};
@@ -169,7 +170,7 @@ pub fn collect<T: Tree>(
         Ok(gathered) => gathered,
         Err(e) => return Err(e),
     };
-    if gathered.total > SUM_LIMIT {
+    if gathered.total > MAX_INPUT_BYTES {
         return Err(CollectErr::TooMuch {
             bytes: gathered.total,
         });

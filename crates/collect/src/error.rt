@@ -6,7 +6,7 @@ use env_select::EnvErr;
 use globs::ListGlobErr;
 use ignore_rules::IgnoreErr;
 use listing::ListErr;
-use rel_path::{PathErr, RelPath, Text};
+use rel_path::{RelPath, Text};
 use std::alloc::{AllocError, AllocFailed};
 use thiserror::Error;
 use turbo_config::ConfigErr;
@@ -42,15 +42,6 @@ impl<T: Drop> From<AllocFailed<T>> for CollectErr {
     ghost from_gives = { λ _ e. e ≡ OutOfMemory };
 
     fn from(_error: AllocFailed<T>) -> CollectErr {
-        CollectErr::OutOfMemory
-    }
-}
-
-// For calls whose only error is want of memory, as far as their contracts leave another one.
-impl From<PathErr> for CollectErr {
-    ghost from_gives = { λ _ e. e ≡ OutOfMemory };
-
-    fn from(_error: PathErr) -> CollectErr {
         CollectErr::OutOfMemory
     }
 }

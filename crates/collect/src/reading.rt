@@ -10,16 +10,11 @@ ghost use Rattle.collect.specs.Refusals.{is_large};
 ghost use Rattle.collect.specs.Steps.{OnlyMemory, IsTooLarge, ReadsOne, ReadsAll, known, known_if, large_at, known_at, is_large_at, Adds, Gathers, ReadsSome, KnowsSome, GathersSome};
 
 use crate::CollectErr;
+use rel_path::limits::{MAX_FILE_BYTES, MAX_INPUT_BYTES};
 use rel_path::{Bytes, Files, Paths, RelPath};
 use std::alloc::Global;
 use task_inputs::Declared;
 use tree_dev::{DevErr, Found, Tree, bytes_at};
-
-/// The most bytes of a file that is read: 16 MiB.
-const FILE_LIMIT: u64 = 16_777_216;
-
-/// The most bytes of all input files together: 64 MiB.
-pub(crate) const SUM_LIMIT: u64 = 67_108_864;
 
 /// Whether the path's last name is `.gitignore`.
 fn is_ignore_file(path: &RelPath) -> bool
@@ -69,7 +64,7 @@ fn read_one<T: Tree>(
     ensures reads { T.tells → ReadsOne ((T.state tree.old).files path.now) (is_large ((T.state tree.old).files path.now)) path.now result }
     ensures cause { HasCause (T.state tree.old).faults (T.state tree.new).faults result }
 {
-    match tree.read(alloc, path, FILE_LIMIT) {
+    match tree.read(alloc, path, MAX_FILE_BYTES) {
         Ok(Found::Absent) => Ok(None),
         Ok(Found::TooLong) => Err(too_large(path)),
         Ok(Found::Here(bytes)) => Ok(Some(bytes)),
@@ -161,7 +156,7 @@ fn add(gathered: &mut Gathered, path: &RelPath, now: Option<Bytes>) -> Result<()
             Some(total) => gathered.total = total,
             None => return Err(CollectErr::OutOfMemory),
         }
-        if gathered.total <= SUM_LIMIT {
+        if gathered.total <= MAX_INPUT_BYTES {
             gathered.files.push((path.copy()?, bytes))?;
         }
     }

@@ -3,7 +3,7 @@ use crate::devices::{crashed, device_of};
 use crate::parts;
 use anyhow::{Result, anyhow};
 use case_files::{answers, inputs};
-use record_log::{LIMIT, Log, LogErr};
+use record_log::{Log, LogErr};
 use rel_path::Bytes;
 use serde_json::{Value, json};
 use std::alloc::Global;
@@ -52,7 +52,7 @@ fn append(alloc: Global, log: &mut Log<FuseStore>, key: &[u8], value: &[u8]) -> 
     if !log.whole() {
         return Err(anyhow!("an append that failed came before"));
     }
-    if key.len() as u64 >= LIMIT || value.len() as u64 >= LIMIT {
+    if key.len() > u32::MAX as usize || value.len() > u32::MAX as usize {
         return Err(anyhow!("too long"));
     }
     match log.append(alloc, PAIR, key, value) {

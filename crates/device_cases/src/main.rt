@@ -13,7 +13,6 @@ mod rooms;
 mod sessions;
 mod sinks;
 mod trees;
-mod vast;
 
 use anyhow::Result;
 use case_files::print_section;

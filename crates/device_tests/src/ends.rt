@@ -7,7 +7,8 @@ use crate::generic::start_plain;
 use crate::make::{command_of, is_run, next_end, run_scripts};
 use crate::system::{enter, leave};
 use os_edge::OsWorld;
-use spawn_dev::{Ended, LOG_LIMIT, Spawner};
+use rel_path::limits::MAX_LOG_BYTES;
+use spawn_dev::{Ended, Spawner};
 use std::alloc::Global;
 use std::process::Abort;
 use std::test::Fail;
@@ -136,7 +137,7 @@ fn logs_at_the_limit(rt: HostRuntime) -> Result<(), Fail> {
     let alloc = rt.alloc();
     let mut world = OsWorld::new(&rt, alloc);
     let (status, log) = run_scripts(alloc, &mut world, "", &["head -c 67108864 /dev/zero"], &[])?;
-    assert!(rt; status == 0 && log.as_slice().len() == LOG_LIMIT);
+    assert!(rt; status == 0 && log.as_slice().len() == MAX_LOG_BYTES);
     let longer = run_scripts(alloc, &mut world, "", &["head -c 67108865 /dev/zero"], &[]);
     assert!(rt; matches!(longer, Err(DevErr::Failed)) && world.is_idle());
     Ok(())

@@ -7,21 +7,21 @@ ghost use Rattle.device_tests.specs.Quiet.{IsQuiet};
 
 use crate::generic::{run_plain, start_plain};
 use globs::{GlobList, GlobLists, OutSet, OutSets};
-use rel_path::{Bytes, Files, Pairs, PathErr, Paths, RelPath, Text, Texts};
+use rel_path::{Bytes, Files, Pairs, Paths, RelPath, Text, Texts};
 use spawn_dev::{Command, Ended, Spawner};
-use std::alloc::Global;
+use std::alloc::{AllocError, Global};
 use std::process::Abort;
 use tree_dev::{DevErr, Found, Tree};
 
-/// The path that the text writes; the root for an empty one.
-pub fn path_of(alloc: Global, text: &str) -> Result<RelPath, PathErr> {
+/// The path that the text writes; the root for an empty one. No test writes a text that is none.
+pub fn path_of(alloc: Global, text: &str) -> Result<RelPath, AllocError> {
     if text.is_empty() {
         return Ok(RelPath::root(alloc));
     }
-    RelPath::read(alloc, text)
+    RelPath::read(alloc, text).map_err(|_| AllocError)
 }
 
-pub fn files_of(alloc: Global, files: &[(&str, &str)]) -> Result<Files, PathErr> {
+pub fn files_of(alloc: Global, files: &[(&str, &str)]) -> Result<Files, AllocError> {
     let mut all = Files::new(alloc);
     for (path, text) in files {
         let path = path_of(alloc, path)?;
@@ -114,7 +114,7 @@ pub fn remove_at<T: Tree>(alloc: Global, tree: &mut T, path: &str) -> Result<(),
     Ok(())
 }
 
-fn texts_of(alloc: Global, texts: &[&str]) -> Result<Texts, PathErr> {
+fn texts_of(alloc: Global, texts: &[&str]) -> Result<Texts, AllocError> {
     let mut all = Texts::new(alloc);
     for text in texts {
         all.push(Text::read(alloc, text)?)?;
@@ -122,7 +122,7 @@ fn texts_of(alloc: Global, texts: &[&str]) -> Result<Texts, PathErr> {
     Ok(all)
 }
 
-fn pairs_of(alloc: Global, pairs: &[(&str, &str)]) -> Result<Pairs, PathErr> {
+fn pairs_of(alloc: Global, pairs: &[(&str, &str)]) -> Result<Pairs, AllocError> {
     let mut all = Pairs::new(alloc);
     for (name, value) in pairs {
         all.push((Text::read(alloc, name)?, Text::read(alloc, value)?))?;
@@ -143,7 +143,7 @@ pub fn outs_of(alloc: Global, folder: &str, outputs: &[&str]) -> Result<OutSet, 
     }
 }
 
-fn no_outputs(alloc: Global, folder: &RelPath) -> Result<OutSet, PathErr>
+fn no_outputs(alloc: Global, folder: &RelPath) -> Result<OutSet, AllocError>
     ensures { IfOk result (λ outs. outs.mine ≡ []) }
 {
     let folder = folder.copy()?;
@@ -153,7 +153,7 @@ fn no_outputs(alloc: Global, folder: &RelPath) -> Result<OutSet, PathErr>
             mine,
             others: GlobLists::new(alloc),
         }),
-        Err(_) => Err(PathErr::OutOfMemory),
+        Err(_) => Err(AllocError),
     }
 }
 
@@ -164,7 +164,7 @@ pub fn command_of(
     dir: &str,
     scripts: &[&str],
     args: &[&str],
-) -> Result<Command, PathErr>
+) -> Result<Command, AllocError>
     ensures place { IfOk result (λ command. command.place ≡ place) }
     ensures plain { IfOk result IsPlain }
 {

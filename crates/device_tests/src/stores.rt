@@ -93,6 +93,19 @@ fn a_device_in_its_place(rt: HostRuntime) -> Result<(), Fail> {
     leave(&rt, folder)
 }
 
+// A file of the system that can be opened and locked, and that the system refuses to sync: a `sync` that asks
+// nothing of the system would answer Ok.
+#[test]
+fn synced_by_the_system(rt: HostRuntime) -> Result<(), Fail> {
+    let folder = enter(&rt, "synced")?;
+    fs::create_dir_all(&rt, ".turbo")?;
+    symlink(&rt, "/proc/self/comm", PATH)?;
+    let mut store = OsStore::new(&rt);
+    assert_eq!(rt; store.len()?, 0);
+    assert!(rt; store.sync() == Err(StoreErr::Failed));
+    leave(&rt, folder)
+}
+
 // While one device holds the file, another one is an empty store that is read as it is written, and its bytes stay
 // out of the file. Once the first is gone, the file is whole and free.
 #[test]

@@ -3,7 +3,7 @@ use Rattle.std.proofs.Common.{◌≡◌, ◌≢◌, ◌∙◌, ◌==◌, ◌&&�
 use Rattle.std.proofs.lemmas.List.Folds.{list_any-append}
 use Rattle.std.proofs.lemmas.Bool.{eqb-true}
 use Rattle.env_select.specs.declared.patterns.Patterns.{Patterns}
-use Rattle.env_select.specs.Patterns.{signs_of, spells_name}
+use Rattle.env_select.specs.Patterns.{exclamation_mark, signs_of, spells_name}
 use Rattle.env_select.specs.Lists.{is_excluded, pattern_in, is_kind, any_matches, selects}
 use Rattle.env_select.specs.Index.{index_takes, Indexes, AddsText}
 use Rattle.env_select.proofs.Plain.{or_none}
@@ -12,30 +12,30 @@ use Rattle.env_select.proofs.Plain.{or_none}
 abbrev pub Adds : List ℕ → Patterns → Patterns → Type 0
 Adds pattern old new = (name : List ℕ) → index_takes new name ≡ (index_takes old name || spells_name (signs_of pattern) name)
 
-pub adds_excluded : (text behind : List ℕ) (old new : Patterns) → text ≡ 33 ∷ behind → Adds behind old new → AddsText true text old new
+pub adds_excluded : (text behind : List ℕ) (old new : Patterns) → text ≡ exclamation_mark ∷ behind → Adds behind old new → AddsText true text old new
 unfolding AddsText any_matches
 adds_excluded text behind old new e h = rw e (λ name. h name ∙ ap (λ last. index_takes old name || last) (sym (or_none (spells_name (signs_of behind) name))))
 
-pub keeps_included : (text behind : List ℕ) (kept : Patterns) → text ≡ 33 ∷ behind → AddsText false text kept kept
+pub keeps_included : (text behind : List ℕ) (kept : Patterns) → text ≡ exclamation_mark ∷ behind → AddsText false text kept kept
 unfolding AddsText any_matches
 keeps_included text behind kept e = rw e (λ name. sym (or_none (index_takes kept name)))
 
-pub adds_included : (text : List ℕ) (old new : Patterns) → ((rest : List ℕ) → text ≢ 33 ∷ rest) → Adds text old new → AddsText false text old new
+pub adds_included : (text : List ℕ) (old new : Patterns) → ((rest : List ℕ) → text ≢ exclamation_mark ∷ rest) → Adds text old new → AddsText false text old new
 unfolding AddsText any_matches
 adds_included [] old new never h = λ name. h name ∙ ap (λ last. index_takes old name || last) (sym (or_none (spells_name (signs_of []) name)))
-adds_included (b ∷ bs) old new never h = by (b == 33) refl
+adds_included (b ∷ bs) old new never h = by (b == exclamation_mark) refl
   where
-    by : (mark : Bool) → (b == 33) ≡ mark → (name : List ℕ) → index_takes new name ≡ (index_takes old name || ((is_kind (b == 33) false && spells_name (pattern_in (b ∷ bs)) name) || false))
-    by true e = absurd (never bs (ap (λ c. c ∷ bs) (eqb-true b 33 e)))
+    by : (mark : Bool) → (b == exclamation_mark) ≡ mark → (name : List ℕ) → index_takes new name ≡ (index_takes old name || ((is_kind (b == exclamation_mark) false && spells_name (pattern_in (b ∷ bs)) name) || false))
+    by true e = absurd (never bs (ap (λ c. c ∷ bs) (eqb-true b exclamation_mark e)))
     by false e = λ name. rw e (h name ∙ ap (λ last. index_takes old name || last) (sym (or_none (spells_name (signs_of (b ∷ bs)) name))))
 
-pub keeps_excluded : (text : List ℕ) (kept : Patterns) → ((rest : List ℕ) → text ≢ 33 ∷ rest) → AddsText true text kept kept
+pub keeps_excluded : (text : List ℕ) (kept : Patterns) → ((rest : List ℕ) → text ≢ exclamation_mark ∷ rest) → AddsText true text kept kept
 unfolding AddsText any_matches
 keeps_excluded [] kept never = λ name. sym (or_none (index_takes kept name))
-keeps_excluded (b ∷ bs) kept never = by (b == 33) refl
+keeps_excluded (b ∷ bs) kept never = by (b == exclamation_mark) refl
   where
-    by : (mark : Bool) → (b == 33) ≡ mark → (name : List ℕ) → index_takes kept name ≡ (index_takes kept name || ((is_kind (b == 33) true && spells_name (pattern_in (b ∷ bs)) name) || false))
-    by true e = absurd (never bs (ap (λ c. c ∷ bs) (eqb-true b 33 e)))
+    by : (mark : Bool) → (b == exclamation_mark) ≡ mark → (name : List ℕ) → index_takes kept name ≡ (index_takes kept name || ((is_kind (b == exclamation_mark) true && spells_name (pattern_in (b ∷ bs)) name) || false))
+    by true e = absurd (never bs (ap (λ c. c ∷ bs) (eqb-true b exclamation_mark e)))
     by false e = λ name. rw e (sym (or_none (index_takes kept name)))
 
 pub indexes_none : (excluded : Bool) (patterns : Patterns) → ((name : List ℕ) → index_takes patterns name ≡ false) → Indexes excluded [] patterns

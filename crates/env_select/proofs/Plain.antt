@@ -5,18 +5,19 @@ use Rattle.std.proofs.lemmas.List.Folds.{list_any-append}
 use Rattle.rel_path.specs.Paths.{name_eq}
 use Rattle.env_select.specs.declared.pattern.Sign.{Sign}
 use Rattle.env_select.specs.declared.pattern.Sign.TheVariants.{Byte}
-use Rattle.env_select.specs.Patterns.{is_wild, sign_of, signs_of, spells_name}
+use Rattle.wildcards.specs.Bytes.{is_star as is_star_byte}
+use Rattle.env_select.specs.Patterns.{backslash, is_wild, sign_of, signs_of, spells_name}
 
 either_false : (a b : Bool) → (a || b) ≡ false → (a ≡ false) × (b ≡ false)
 either_false true b e = cc
 either_false false b e = (refl, e)
 
 plain_sign : (b : ℕ) → is_wild b ≡ false → sign_of b ≡ Byte b
-plain_sign b e = rw (either_false (b == 42) (b == 92) e).0 refl
+plain_sign b e = rw (either_false (is_star_byte b) (b == backslash) e).0 refl
 
 signs_of-plain : (b : ℕ) (bs : List ℕ) → is_wild b ≡ false → signs_of (b ∷ bs) ≡ Byte b ∷ signs_of bs
 signs_of-plain b [] e = rw (plain_sign b e) refl
-signs_of-plain b (c ∷ bs) e = rw ((either_false (b == 42) (b == 92) e).1, plain_sign b e) refl
+signs_of-plain b (c ∷ bs) e = rw ((either_false (is_star_byte b) (b == backslash) e).1, plain_sign b e) refl
 
 pub plain_spells : (text name : List ℕ) → list_any is_wild text ≡ false → spells_name (signs_of text) name ≡ name_eq name text
 plain_spells [] [] e = refl

@@ -2,19 +2,19 @@
 use Rattle.std.specs.Prelude.{◌≡◌, ◌==◌, ℕ, Bool, true, false, not, ◌&&◌, List, [], ◌∷◌, Any, if◌then◌else◌}
 use Rattle.std.specs.List.{list_any}
 use Rattle.env_select.specs.declared.pattern.Sign.{Sign}
-use Rattle.env_select.specs.Patterns.{signs_of, SpellsName, spells_name}
+use Rattle.env_select.specs.Patterns.{exclamation_mark, signs_of, SpellsName, spells_name}
 
 -- ---- one text of a list
 
 -- it begins with `!`
 abbrev pub is_excluded : List ℕ → Bool
 is_excluded [] = false
-is_excluded (b ∷ bs) = b == 33
+is_excluded (b ∷ bs) = b == exclamation_mark
 
 -- the pattern behind a leading `!`, or the whole
 abbrev pub pattern_in : List ℕ → List Sign
 pattern_in [] = signs_of []
-pattern_in (b ∷ bs) = if b == 33 then signs_of bs else signs_of (b ∷ bs)
+pattern_in (b ∷ bs) = if b == exclamation_mark then signs_of bs else signs_of (b ∷ bs)
 
 -- ---- which names a list selects, as a relation
 

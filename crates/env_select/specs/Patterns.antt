@@ -1,17 +1,24 @@
 -- Patterns of names of variables, as in Turborepo's `env` and `passThroughEnv`: `*` stands for any run of characters, `\*` and `\!` are the characters. Names and patterns are texts in UTF-8, in which a run of bytes between whole characters is a run of characters.
 use Rattle.std.specs.Prelude.{◌≡◌, ◌==◌, ℕ, Bool, true, false, ◌&&◌, ◌||◌, List, [], ◌∷◌, if◌then◌else◌}
+use Rattle.wildcards.specs.Bytes.{asterisk, is_star as is_star_byte}
 use Rattle.wildcards.specs.Spells.{Spells, spells}
 use Rattle.env_select.specs.declared.pattern.Sign.{Sign}
 use Rattle.env_select.specs.declared.pattern.Sign.TheVariants.{Star, Byte}
 
 -- ---- reading
 
+abbrev pub exclamation_mark : ℕ
+exclamation_mark = 33
+
+abbrev pub backslash : ℕ
+backslash = 92
+
 -- `\*` and `\!`
 abbrev pub is_quoted : ℕ → ℕ → Bool
-is_quoted b c = b == 92 && (c == 42 || c == 33)
+is_quoted b c = b == backslash && (c == asterisk || c == exclamation_mark)
 
 abbrev pub sign_of : ℕ → Sign
-sign_of b = if b == 42 then Star else Byte b
+sign_of b = if is_star_byte b then Star else Byte b
 
 -- the signs that bytes write
 abbrev pub signs_of : List ℕ → List Sign
@@ -45,4 +52,4 @@ spells_name signs name = spells is_star takes_byte signs name
 
 -- `*` or `\`
 abbrev pub is_wild : ℕ → Bool
-is_wild b = b == 42 || b == 92
+is_wild b = is_star_byte b || b == backslash

@@ -1,5 +1,5 @@
 -- The names that a choice asks for, as the code tells them apart.
-use Rattle.std.specs.Prelude.{ℕ, Bool, List, Option, Some, None}
+use Rattle.std.specs.Prelude.{ℕ, Bool, List}
 use Rattle.env_select.specs.declared.choose.EnvMode.{EnvMode}
 use Rattle.env_select.specs.declared.choose.EnvMode.TheVariants.{Strict, Loose}
 use Rattle.env_select.specs.declared.choose.Reach.{Reach}
@@ -14,8 +14,3 @@ abbrev pub is_wanted : Reach → List (List ℕ) → List (List ℕ) → List �
 is_wanted Listed task global name = is_hashed task global name
 is_wanted Known task global name = is_passed Strict task global name
 is_wanted All task global name = is_passed Loose task global name
-
--- the first of two values
-abbrev pub first_of : Option (List ℕ) → Option (List ℕ) → Option (List ℕ)
-first_of None second = second
-first_of (Some value) second = Some value

@@ -1,9 +1,10 @@
 // The pairs of the environment that are chosen by their names.
 ghost use Rattle.std.specs.Prelude.{◌≡◌, ◌∷◌, [], ℕ, List, None, OnOk, IfOk, if◌then◌else◌};
+ghost use Rattle.std.specs.Option.{option_or};
 ghost use Rattle.std.specs.BTreeMap.{get, IsOrdered};
 ghost use Rattle.rel_path.specs.Paths.{name_cmp};
 ghost use Rattle.env_select.specs.Choice.{first_value, has, chosen, IsChosen, ChosenOnce, is_always_given, is_hashed, is_given};
-ghost use Rattle.env_select.specs.Reach.{reach_of, is_wanted, first_of};
+ghost use Rattle.env_select.specs.Reach.{reach_of, is_wanted};
 
 use crate::error::EnvErr;
 use crate::list::EnvList;
@@ -70,7 +71,7 @@ fn is_wanted(reach: Reach, task: &EnvList, global: &EnvList, name: &Text) -> boo
 
 /// Adds the pair where its name has no value yet.
 fn add_first(values: &mut Values, pair: &(Text, Text)) -> Result<(), EnvErr>
-    ensures { OnOk result ((name : List ℕ) → get name_cmp values.new name ≡ first_of (get name_cmp values.old name) (first_value (pair.now ∷ []) name)) }
+    ensures { OnOk result ((name : List ℕ) → get name_cmp values.new name ≡ option_or (get name_cmp values.old name) (first_value (pair.now ∷ []) name)) }
 {
     let known = values.contains_key(&pair.0);
     if !known {

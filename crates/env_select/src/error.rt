@@ -2,7 +2,6 @@
 ghost use Rattle.std.specs.Prelude.{◌≡◌};
 ghost use Rattle.env_select.specs.declared.error.EnvErr.TheVariants.{OutOfMemory};
 
-use rel_path::PathErr;
 use std::alloc::{AllocError, AllocFailed};
 use thiserror::Error;
 
@@ -25,15 +24,6 @@ impl<T: Drop> From<AllocFailed<T>> for EnvErr {
     ghost from_gives = { λ _ e. e ≡ OutOfMemory };
 
     fn from(_error: AllocFailed<T>) -> EnvErr {
-        EnvErr::OutOfMemory
-    }
-}
-
-/// For calls of `rel_path` that fail for want of memory alone.
-impl From<PathErr> for EnvErr {
-    ghost from_gives = { λ _ e. e ≡ OutOfMemory };
-
-    fn from(_error: PathErr) -> EnvErr {
         EnvErr::OutOfMemory
     }
 }

@@ -1,11 +1,10 @@
 // Patterns of names.
 ghost use Rattle.std.specs.Prelude.{◌≡◌, IfOk};
-ghost use Rattle.std.specs.List.{list_all, list_any};
-ghost use Rattle.wildcards.specs.Spells.{after_some};
 ghost use Rattle.env_select.specs.Patterns.{is_quoted, sign_of, signs_of, is_star, takes_byte, spells_name};
 
 use std::alloc::{AllocError, Global};
 use std::marker::Model;
+use wildcards::Item;
 
 /// One step of a pattern.
 #[derive(Clone, Copy, Debug)]
@@ -16,20 +15,19 @@ pub(crate) enum Sign {
     Byte(u8),
 }
 
-impl Sign {
-    fn is_star(&self) -> bool
-        ensures { result ≡ is_star self.now }
-    {
+impl Item<u8> for Sign {
+    ghost is_run = { is_star };
+
+    ghost takes = { takes_byte };
+
+    fn is_run(&self) -> bool {
         matches!(self, Sign::Star)
     }
 
-    /// Whether it takes this one byte. A `*` takes a run and no single byte.
-    fn takes(&self, byte: u8) -> bool
-        ensures { result ≡ takes_byte self.now byte }
-    {
+    fn takes(&self, byte: &u8) -> bool {
         match self {
             Sign::Star => false,
-            Sign::Byte(own) => byte == *own,
+            Sign::Byte(own) => *byte == *own,
         }
     }
 }
@@ -67,7 +65,7 @@ impl Pattern {
     pub fn matches(&self, name: &[u8]) -> bool
         ensures { result ≡ spells_name self.now name.now }
     {
-        spells_name(self.signs(), name)
+        wildcards::spells(self.signs(), name)
     }
 }
 
@@ -106,64 +104,4 @@ fn read_signs(alloc: Global, text: &[u8]) -> Result<Vec<Sign>, AllocError>
         }
     }
     Ok(signs)
-}
-
-fn are_stars(signs: &[Sign]) -> bool
-    ensures { result ≡ list_all is_star signs.now }
-{
-    signs.iter().all(|sign| sign.is_star())
-}
-
-/// Whether the signs take the whole name. Up to the first `*` each takes one byte.
-fn spells_name(signs: &[Sign], name: &[u8]) -> bool
-    ensures { result ≡ spells_name signs.now name.now }
-{
-    let mut items = signs;
-    let mut rest = name;
-    while let Some((sign, more)) = items.split_first() {
-        if sign.is_star() {
-            return spells_somewhere(more, rest);
-        }
-        match rest.split_first() {
-            Some((byte, behind)) if sign.takes(*byte) => {
-                items = more;
-                rest = behind;
-            }
-            _ => return false,
-        }
-    }
-    rest.is_empty()
-}
-
-/// Whether the signs take the name from some byte on. One walk in constant space: where it is stuck, it returns to the
-/// signs behind the last `*` and to the byte behind the one at which it tried these last.
-fn spells_somewhere(signs: &[Sign], name: &[u8]) -> bool
-    ensures { result ≡ after_some (spells_name signs.now) name.now }
-{
-    let mut back_items = signs;
-    let mut back = name;
-    let mut items = signs;
-    let mut rest = name;
-    while let Some((byte, behind)) = rest.split_first() {
-        match items.split_first() {
-            Some((sign, more)) if sign.is_star() => {
-                back_items = more;
-                back = rest;
-                items = more;
-            }
-            Some((sign, more)) if sign.takes(*byte) => {
-                items = more;
-                rest = behind;
-            }
-            _ => match back.split_first() {
-                Some((_, later)) => {
-                    back = later;
-                    rest = later;
-                    items = back_items;
-                }
-                None => return false,
-            },
-        }
-    }
-    are_stars(items)
 }

@@ -1,5 +1,4 @@
 mod Strips
-mod Decides
 mod Places
 mod Marking
 mod Taking

@@ -1,12 +1,8 @@
 -- Words that the calls share.
-use Rattle.std.specs.Prelude.{◌≡◌, ◌⊎◌, ℕ, List, Option, Some, None, Result, IfErr}
+use Rattle.std.specs.Prelude.{◌≡◌, ◌⊎◌, ℕ, List, Option, Some, None}
 use Rattle.filters.specs.declared.error.FilterErr.{FilterErr}
 use Rattle.filters.specs.declared.error.FilterErr.TheVariants.{Unreadable, NoPackage, OutOfMemory}
 use Rattle.filters.specs.Words.{filter_of}
-
--- no error but want of memory, which may come at any time
-abbrev pub OnlyMemory : {T : Type 0} → Result T FilterErr → Type 0
-OnlyMemory result = IfErr result (λ e. e ≡ OutOfMemory)
 
 -- the word writes no filter, or memory is wanting, which may come at any time
 abbrev pub MayRefuseWord : List ℕ → FilterErr → Type 0

@@ -1,8 +1,11 @@
 -- What a word of `--filter` writes: an optional `!`, an optional `...` or `...^`, a core, and an optional `...` or `^...` (Turborepo docs, "Filtering packages").
 use Rattle.std.specs.Prelude.{ℕ, ◌==◌, ◌-◌, ◌||◌, Bool, true, false, if◌then◌else◌, List, [], ◌∷◌, length, take, drop, Option, Some, None, is_some, nat_eq, codes}
-use Rattle.std.specs.Option.{option_map, option_and_then}
+use Rattle.std.specs.Option.{option_map, option_and_then, option_or}
 use Rattle.std.specs.List.{list_any, starts_with, ends_with}
 use Rattle.std.specs.Str.{chars}
+use Rattle.wildcards.specs.Bytes.{is_star}
+use Rattle.wildcards.specs.Spells.{is_empty}
+use Rattle.glob_syntax.specs.Characters.{open_bracket}
 use Rattle.glob_syntax.specs.Reading.{fault_at, glob_from}
 use Rattle.filters.specs.declared.filter.End.{End}
 use Rattle.filters.specs.declared.filter.End.TheVariants.{Bare, Dots, Caret}
@@ -34,26 +37,16 @@ back_of text = with_rest Caret (before (codes "^...") text) (with_rest Dots (bef
 
 -- ---- the core
 
-abbrev pub is_star : ℕ → Bool
-is_star b = b == 42
-
 abbrev pub is_bracket : ℕ → Bool
-is_bracket b = b == 91
-
-abbrev pub or_else : Option (List ℕ) → Option (List ℕ) → Option (List ℕ)
-or_else None later = later
-or_else (Some text) later = Some text
+is_bracket b = b == open_bracket
 
 -- the glob of `./dir` or `{./dir}`
 abbrev pub folder_glob : List ℕ → Option (List ℕ)
-folder_glob text = or_else (behind (codes "./") text) (option_and_then (before (codes "}")) (behind (codes "{./") text))
+folder_glob text =
+    option_or (behind (codes "./") text) (option_and_then (before (codes "}")) (behind (codes "{./") text))
 
 abbrev pub glob_core : List ℕ → Option Core
 glob_core text = if is_some (fault_at 0 (chars text)) then None else Some (Folder (glob_from 0 (chars text)))
-
-abbrev pub is_empty : List ℕ → Bool
-is_empty [] = true
-is_empty (b ∷ bs) = false
 
 -- a name pattern has a character at least, and no `[`
 abbrev pub name_core : List ℕ → Option Core

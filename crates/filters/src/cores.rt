@@ -1,13 +1,12 @@
 // The packages that a core names.
-ghost use Rattle.std.specs.Prelude.{◌≡◌, ◌<◌, IfOk, IfErr, None, length};
+ghost use Rattle.std.specs.Prelude.{◌≡◌, ◌<◌, IfOk, IfErr, None, length, IsOkUnless};
 ghost use Rattle.std.specs.List.{list_any};
 ghost use Rattle.workspaces.specs.Lists.{places, passes_at};
 ghost use Rattle.filters.specs.Selection.{is_in_core, has_name, missing_name};
-ghost use Rattle.filters.specs.Steps.{OnlyMemory, MayMiss};
+ghost use Rattle.filters.specs.Steps.{MayMiss};
 
 use crate::FilterErr;
 use crate::filter::Core;
-use crate::pattern::spells_name;
 use rel_path::{Places, Text};
 use std::alloc::Global;
 use workspaces::Packages;
@@ -22,7 +21,7 @@ fn is_in_core(core: &Core, packages: &Packages, p: u32) -> bool
         Core::Name(name) => packages.name(p) == name,
         Core::Pattern(pattern) => {
             let name = packages.name(p);
-            spells_name(pattern.as_str().as_bytes(), name.as_str().as_bytes())
+            wildcards::spells(pattern.as_str().as_bytes(), name.as_str().as_bytes())
         }
     }
 }
@@ -34,7 +33,7 @@ pub(crate) fn core_places(
     packages: &Packages,
 ) -> Result<Places, FilterErr>
     ensures value { IfOk result (λ found. found ≡ places (is_in_core core.now) packages.now.packages) }
-    ensures memory { OnlyMemory result }
+    ensures memory { IsOkUnless result FilterErr.OutOfMemory }
 {
     let mut found = Places::new(alloc);
     for p in 0..packages.count() {

@@ -2,7 +2,7 @@
 ghost use Rattle.std.specs.Prelude.{◌≡◌};
 ghost use Rattle.filters.specs.declared.error.FilterErr.TheVariants.{OutOfMemory};
 
-use rel_path::{PathErr, Text};
+use rel_path::Text;
 use std::alloc::{AllocError, AllocFailed};
 use thiserror::Error;
 use workspaces::SpaceErr;
@@ -32,15 +32,6 @@ impl<T: Drop> From<AllocFailed<T>> for FilterErr {
     ghost from_gives = { λ _ e. e ≡ OutOfMemory };
 
     fn from(_error: AllocFailed<T>) -> FilterErr {
-        FilterErr::OutOfMemory
-    }
-}
-
-// For calls whose only error is want of memory.
-impl From<PathErr> for FilterErr {
-    ghost from_gives = { λ _ e. e ≡ OutOfMemory };
-
-    fn from(_error: PathErr) -> FilterErr {
         FilterErr::OutOfMemory
     }
 }

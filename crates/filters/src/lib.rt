@@ -7,7 +7,6 @@ mod cores;
 mod error;
 mod filter;
 mod marks;
-mod pattern;
 mod selection;
 mod taken;
 mod words;

@@ -1,9 +1,8 @@
 // Marks on packages, by their places.
-ghost use Rattle.std.specs.Prelude.{◌≡◌, ◌<◌, ◌^◌, ℕ, IfOk, length, if◌then◌else◌};
+ghost use Rattle.std.specs.Prelude.{◌≡◌, ◌<◌, ◌^◌, ℕ, IfOk, length, if◌then◌else◌, IsOkUnless};
 ghost use Rattle.workspaces.specs.Lists.{places};
 ghost use Rattle.workspaces.specs.Marks.{itself, is_marked};
 ghost use Rattle.workspaces.specs.Reach.{is_in, AreBelow};
-ghost use Rattle.filters.specs.Steps.{OnlyMemory};
 
 use crate::FilterErr;
 use rel_path::Places;
@@ -24,7 +23,7 @@ pub(crate) fn mark(marks: &mut [bool], places: &[u32], value: bool)
 pub(crate) fn marked(alloc: Global, marks: &[bool]) -> Result<Places, FilterErr>
     requires { length marks.now < 2 ^ 32 }
     ensures value { IfOk result (λ found. found ≡ places itself marks.now) }
-    ensures memory { OnlyMemory result }
+    ensures memory { IsOkUnless result FilterErr.OutOfMemory }
 {
     let mut found = Places::new(alloc);
     for (place, mark) in marks.iter().enumerate() {

@@ -1,11 +1,11 @@
 // Which packages filters select.
-ghost use Rattle.std.specs.Prelude.{◌≡◌, ◌<◌, ◌^◌, ℕ, None, Some, IfOk, IfErr, length, map};
+ghost use Rattle.std.specs.Prelude.{◌≡◌, ◌<◌, ◌^◌, ℕ, None, Some, IfOk, IfErr, length, map, IsOkUnless};
 ghost use Rattle.std.specs.List.Sorted.{IsStrictlySortedBy};
 ghost use Rattle.std.specs.Ordering.{nat_cmp};
 ghost use Rattle.workspaces.specs.Reach.{is_in, AreBelow};
 ghost use Rattle.filters.specs.Words.{filter_of};
 ghost use Rattle.filters.specs.Selection.{AreSelected, AreSelectedBy, first_missing, word_fault, words_fault};
-ghost use Rattle.filters.specs.Steps.{OnlyMemory, MayMiss, MayRefuse};
+ghost use Rattle.filters.specs.Steps.{MayMiss, MayRefuse};
 ghost use Rattle.filters.specs.Sides.{AddsTo, AreSides, is_included, is_chosen};
 ghost use Rattle.workspaces.specs.Marks.{is_marked};
 
@@ -44,7 +44,7 @@ fn add(sides: &mut Sides, excludes: bool, taken: &[u32])
 fn sides_of(alloc: Global, filters: &[Filter], packages: &Packages) -> Result<Sides, FilterErr>
     ensures value { IfOk result (AreSides packages.now.packages filters.now) }
     ensures few { IfOk result (λ sides. length packages.now.packages < 2 ^ 32) }
-    ensures memory { OnlyMemory result }
+    ensures memory { IsOkUnless result FilterErr.OutOfMemory }
 {
     let count = packages.count() as usize;
     let mut sides = Sides {
@@ -63,7 +63,7 @@ fn sides_of(alloc: Global, filters: &[Filter], packages: &Packages) -> Result<Si
 fn included_marks(alloc: Global, included: Vec<bool>, all: bool) -> Result<Vec<bool>, FilterErr>
     ensures same { IfOk result (λ marks. length marks.items ≡ length included.items) }
     ensures marks { IfOk result (λ marks. (p : ℕ) → is_marked marks.items p ≡ is_included all included.items p) }
-    ensures memory { OnlyMemory result }
+    ensures memory { IsOkUnless result FilterErr.OutOfMemory }
 {
     if all {
         let count = included.as_slice().len();
@@ -79,7 +79,7 @@ fn chosen(alloc: Global, sides: Sides) -> Result<Places, FilterErr>
     requires same { length sides.excluded.items ≡ length sides.included.items }
     ensures ascend { IfOk result (IsStrictlySortedBy nat_cmp) }
     ensures chosen { IfOk result (λ found. (p : ℕ) → is_in found p ≡ is_chosen sides p) }
-    ensures memory { OnlyMemory result }
+    ensures memory { IsOkUnless result FilterErr.OutOfMemory }
 {
     let excluded = marked(alloc, sides.excluded.as_slice())?;
     let mut marks = included_marks(alloc, sides.included, sides.only_excludes)?;
@@ -90,7 +90,7 @@ fn chosen(alloc: Global, sides: Sides) -> Result<Places, FilterErr>
 /// What filters select that have no name that is missing.
 fn selected_by(alloc: Global, filters: &[Filter], packages: &Packages) -> Result<Places, FilterErr>
     ensures value { IfOk result (AreSelected packages.now.packages filters.now) }
-    ensures memory { OnlyMemory result }
+    ensures memory { IsOkUnless result FilterErr.OutOfMemory }
 {
     let sides = sides_of(alloc, filters, packages)?;
     chosen(alloc, sides)

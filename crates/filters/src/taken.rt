@@ -1,11 +1,10 @@
 // What one filter takes.
-ghost use Rattle.std.specs.Prelude.{◌≡◌, ℕ, false, IfOk, length};
+ghost use Rattle.std.specs.Prelude.{◌≡◌, ℕ, false, IfOk, length, IsOkUnless};
 ghost use Rattle.workspaces.specs.Marks.{is_marked};
 ghost use Rattle.workspaces.specs.Members.{leads, leads_back};
 ghost use Rattle.workspaces.specs.Reach.{is_in, AreBelow};
 ghost use Rattle.filters.specs.Selection.{Takes, IsReachedIf};
 ghost use Rattle.filters.specs.Sides.{AreNeighbours, LieBelow, is_taken};
-ghost use Rattle.filters.specs.Steps.{OnlyMemory};
 
 use crate::FilterErr;
 use crate::cores::core_places;
@@ -25,7 +24,7 @@ fn below_if(
     requires { AreBelow (length packages.now.packages) set.now }
     ensures reached { IfOk result (IsReachedIf asked (leads packages.now.packages) set.now) }
     ensures below { IfOk result (AreBelow (length packages.now.packages)) }
-    ensures memory { OnlyMemory result }
+    ensures memory { IsOkUnless result FilterErr.OutOfMemory }
 {
     if asked {
         Ok(packages.below(alloc, set)?)
@@ -44,7 +43,7 @@ fn above_if(
     requires { AreBelow (length packages.now.packages) set.now }
     ensures reached { IfOk result (IsReachedIf asked (leads_back packages.now.packages) set.now) }
     ensures below { IfOk result (AreBelow (length packages.now.packages)) }
-    ensures memory { OnlyMemory result }
+    ensures memory { IsOkUnless result FilterErr.OutOfMemory }
 {
     if asked {
         Ok(packages.above(alloc, set)?)
@@ -70,7 +69,7 @@ fn neighbours_of(
 ) -> Result<Neighbours, FilterErr>
     ensures value { IfOk result (AreNeighbours packages.now.packages filter.now) }
     ensures below { IfOk result (LieBelow (length packages.now.packages)) }
-    ensures memory { OnlyMemory result }
+    ensures memory { IsOkUnless result FilterErr.OutOfMemory }
 {
     let front = filter.front.has_dots();
     let back = filter.back.has_dots();
@@ -107,7 +106,7 @@ pub(crate) fn taken(
 ) -> Result<Places, FilterErr>
     ensures takes { IfOk result (λ found. Takes packages.now.packages filter.now (is_in found)) }
     ensures below { IfOk result (AreBelow (length packages.now.packages)) }
-    ensures memory { OnlyMemory result }
+    ensures memory { IsOkUnless result FilterErr.OutOfMemory }
 {
     let neighbours = neighbours_of(alloc, filter, packages)?;
     let mut marks = vec![in alloc; false; packages.count() as usize]?;

@@ -1,9 +1,9 @@
 // The parts of a filter word.
-ghost use Rattle.std.specs.Prelude.{◌≡◌, IfOk};
+ghost use Rattle.std.specs.Prelude.{◌≡◌, IfOk, IsOkUnless};
 ghost use Rattle.std.specs.Option.{option_copied};
 ghost use Rattle.std.specs.List.{list_any};
-ghost use Rattle.filters.specs.Words.{behind, before, mark_of, front_of, back_of, folder_glob, glob_core, name_core, core_of, is_star, is_bracket};
-ghost use Rattle.filters.specs.Steps.{OnlyMemory};
+ghost use Rattle.wildcards.specs.Bytes.{is_star};
+ghost use Rattle.filters.specs.Words.{behind, before, mark_of, front_of, back_of, folder_glob, glob_core, name_core, core_of, is_bracket};
 
 use crate::FilterErr;
 use crate::filter::{Core, End};
@@ -79,7 +79,7 @@ fn folder_glob(text: &str) -> Option<&str>
 
 fn glob_core(alloc: Global, text: &str) -> Result<Option<Core>, FilterErr>
     ensures value { IfOk result (λ core. core ≡ glob_core text.now) }
-    ensures memory { OnlyMemory result }
+    ensures memory { IsOkUnless result FilterErr.OutOfMemory }
 {
     match Glob::read(alloc, text) {
         Ok(glob) => Ok(Some(Core::Folder(glob))),
@@ -102,7 +102,7 @@ fn has_bracket(text: &str) -> bool
 
 fn name_core(alloc: Global, text: &str) -> Result<Option<Core>, FilterErr>
     ensures value { IfOk result (λ core. core ≡ name_core text.now) }
-    ensures memory { OnlyMemory result }
+    ensures memory { IsOkUnless result FilterErr.OutOfMemory }
 {
     if text.is_empty() || has_bracket(text) {
         return Ok(None);
@@ -119,7 +119,7 @@ fn name_core(alloc: Global, text: &str) -> Result<Option<Core>, FilterErr>
 #[tactic(auto, unfolding(crate::specs::Words::core_of))]
 pub(crate) fn core_of(alloc: Global, text: &str) -> Result<Option<Core>, FilterErr>
     ensures value { IfOk result (λ core. core ≡ core_of text.now) }
-    ensures memory { OnlyMemory result }
+    ensures memory { IsOkUnless result FilterErr.OutOfMemory }
 {
     match folder_glob(text) {
         Some(glob) => glob_core(alloc, glob),

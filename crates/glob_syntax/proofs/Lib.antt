@@ -4,3 +4,4 @@ pub mod Components
 pub mod Pieces
 pub mod Outlook
 pub mod Width
+pub mod Matching

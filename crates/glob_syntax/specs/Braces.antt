@@ -1,5 +1,6 @@
 -- The first fault of the braces and classes of a glob, in the order of their places.
 use Rattle.std.specs.Prelude.{◌+◌, ◌*◌, ℕ, Bool, true, false, ◌||◌, nat_lt, List, [], ◌∷◌, Option, Some, None, if◌then◌else◌}
+use Rattle.rel_path.specs.Limits.{alternative_limit}
 use Rattle.glob_syntax.specs.declared.error.GlobErr.{GlobErr}
 use Rattle.glob_syntax.specs.declared.error.GlobErr.TheVariants as err
 use Rattle.glob_syntax.specs.declared.token.Sign.{Sign}
@@ -36,7 +37,7 @@ parts_from (token ∷ tokens) = part_more token.sign (parts_from tokens)
 abbrev pub open_fault : ℕ → Bool → ℕ → Bool → ℕ → (Bool → ℕ → Option GlobErr) → Option GlobErr
 open_fault at true before closed parts later = Some (err.Nested at)
 open_fault at false before false parts later = Some (err.OpenBrace at)
-open_fault at false before true parts later = if nat_lt 256 (before * parts) then Some (err.Wide at) else later true (before * parts)
+open_fault at false before true parts later = if nat_lt alternative_limit (before * parts) then Some (err.Wide at) else later true (before * parts)
 
 -- the fault of a sign at a place, and else that of what follows, which stands inside braces or not behind so many alternatives
 abbrev pub sign_fault : Sign → ℕ → Bool → ℕ → Bool → ℕ → (Bool → ℕ → Option GlobErr) → Option GlobErr

@@ -1,5 +1,7 @@
+pub mod Characters
 pub mod Marks
 pub mod Atoms
+pub mod Classes
 pub mod Tokens
 pub mod Braces
 pub mod Pieces
@@ -8,3 +10,4 @@ pub mod Outlook
 pub mod Parts
 pub mod Faults
 pub mod Reading
+pub mod Match

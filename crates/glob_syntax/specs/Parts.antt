@@ -8,16 +8,17 @@ use Rattle.glob_syntax.specs.declared.part.Part.TheVariants as part
 use Rattle.glob_syntax.specs.declared.token.Sign.{Sign}
 use Rattle.glob_syntax.specs.declared.token.Sign.TheVariants as sign
 use Rattle.glob_syntax.specs.declared.token.Token.{Token}
+use Rattle.glob_syntax.specs.Characters.{comma, slash, open_bracket, open_brace, close_brace}
 use Rattle.glob_syntax.specs.Tokens.{is_dot, is_star_sign}
 use Rattle.glob_syntax.specs.Climbs.{components_of}
 
 -- a brace, comma or `[` that has no meaning where it stands is itself
 abbrev pub atom_of : Sign → Atom
-atom_of sign.Open = atom.Char 123
-atom_of sign.Close = atom.Char 125
-atom_of sign.Comma = atom.Char 44
-atom_of sign.Slash = atom.Char 47
-atom_of sign.OpenClass = atom.Char 91
+atom_of sign.Open = atom.Char open_brace
+atom_of sign.Close = atom.Char close_brace
+atom_of sign.Comma = atom.Char comma
+atom_of sign.Slash = atom.Char slash
+atom_of sign.OpenClass = atom.Char open_bracket
 atom_of (sign.Atom atom) = atom
 
 -- the atoms of a component, behind a `*` or not, with one `*` for a run of them

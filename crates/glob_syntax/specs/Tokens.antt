@@ -1,5 +1,5 @@
--- A glob's characters as tokens (classes as in POSIX pattern matching notation, with `!` to negate).
-use Rattle.std.specs.Prelude.{◌==◌, ℕ, Bool, true, false, not, ◌&&◌, ◌||◌, List, [], ◌∷◌, ◌++◌, Option, Some, None, if◌then◌else◌}
+-- A glob's characters as tokens (pattern matching notation of POSIX, Shell Command Language, section 2.13; braces as in the brace expansion of shells).
+use Rattle.std.specs.Prelude.{◌==◌, ℕ, Bool, true, false, ◌&&◌, ◌||◌, List, [], ◌∷◌, ◌++◌, Option, Some, None, if◌then◌else◌}
 use Rattle.glob_syntax.specs.declared.mark.Mark.{Mark}
 use Rattle.glob_syntax.specs.declared.atom.Class.{Class}
 use Rattle.glob_syntax.specs.declared.atom.Atom.{Atom}
@@ -7,53 +7,38 @@ use Rattle.glob_syntax.specs.declared.atom.Atom.TheVariants as atom
 use Rattle.glob_syntax.specs.declared.token.Sign.{Sign}
 use Rattle.glob_syntax.specs.declared.token.Sign.TheVariants as sign
 use Rattle.glob_syntax.specs.declared.token.Token.{Token}
+use Rattle.glob_syntax.specs.declared.class.Negation.TheVariants.{ExclamationMark}
+use Rattle.glob_syntax.specs.Characters.{asterisk, comma, period, question_mark, open_bracket, close_bracket, open_brace, close_brace}
 use Rattle.glob_syntax.specs.Marks.{is_plain, is_slash}
+use Rattle.glob_syntax.specs.Classes.{ends_class, class_of}
 use Rattle.glob_syntax.specs.Atoms.{is_star}
 
--- ---- classes
+-- ---- classes, of which a first `!` negates
 
--- what stands behind the `[` so far has a member; a first `!` is none
-abbrev pub has_member : List Mark → Bool
-has_member [] = false
-has_member (m ∷ []) = not (is_plain 33 m)
-has_member (m ∷ n ∷ more) = true
-
--- this is the `]` that ends the class; directly behind `[` or `[!` it is a member
-abbrev pub ends_class : List Mark → Mark → Bool
-ends_class body m = is_plain 93 m && has_member body
+-- this is the `]` that ends the class
+abbrev pub ends : List Mark → Mark → Bool
+ends body m = ends_class ExclamationMark body m
 
 -- the class with this behind its `[` so far comes to its end before a `/` or the end of the text
 abbrev pub closes : List Mark → List Mark → Bool
 closes body [] = false
-closes body (m ∷ ms) = if is_slash m then false else (if ends_class body m then true else closes (body ++ m ∷ []) ms)
+closes body (m ∷ ms) = if is_slash m then false else (if ends body m then true else closes (body ++ m ∷ []) ms)
 
 -- a `]` comes before a `/`
 abbrev pub has_end : List Mark → Bool
 has_end [] = false
-has_end (m ∷ ms) = if is_slash m then false else (is_plain 93 m || has_end ms)
-
--- `a-z` is a range, each other character is itself
-abbrev pub members : List Mark → List (ℕ × ℕ)
-members [] = []
-members (a ∷ []) = (a.character, a.character) ∷ []
-members (a ∷ b ∷ []) = (a.character, a.character) ∷ (b.character, b.character) ∷ []
-members (a ∷ b ∷ z ∷ zs) = if is_plain 45 b then (a.character, z.character) ∷ members zs else (a.character, a.character) ∷ members (b ∷ z ∷ zs)
-
--- a first `!` negates
-abbrev pub class_of : List Mark → Class
-class_of [] = (false, [])
-class_of (m ∷ ms) = if is_plain 33 m then (true, members ms) else (false, members (m ∷ ms))
+has_end (m ∷ ms) = if is_slash m then false else (is_plain close_bracket m || has_end ms)
 
 -- ---- tokens
 
 abbrev pub plain_sign : ℕ → Sign
 plain_sign c =
-    if c == 123 then sign.Open else
-    (if c == 125 then sign.Close else
-    (if c == 44 then sign.Comma else
-    (if c == 91 then sign.OpenClass else
-    (if c == 42 then sign.Atom atom.Star else
-    (if c == 63 then sign.Atom atom.One else sign.Atom (atom.Char c))))))
+    if c == open_brace then sign.Open else
+    (if c == close_brace then sign.Close else
+    (if c == comma then sign.Comma else
+    (if c == open_bracket then sign.OpenClass else
+    (if c == asterisk then sign.Atom atom.Star else
+    (if c == question_mark then sign.Atom atom.One else sign.Atom (atom.Char c))))))
 
 -- what a character says that begins no class: a `/` separates, also where it is quoted, and every other quoted character is itself
 abbrev pub sign_of : Mark → Sign
@@ -71,15 +56,15 @@ class_token at class = token_with at (sign.Atom (atom.OneOf class))
 -- the tokens of what is left, outside a class or inside the one that began at a place, with this behind its `[` so far
 abbrev pub tokens_of : Option (ℕ × List Mark) → List Mark → List Token
 tokens_of class [] = []
-tokens_of None (m ∷ ms) = if is_plain 91 m && closes [] ms then tokens_of (Some (m.at, [])) ms else token_of m ∷ tokens_of None ms
-tokens_of (Some (at, body)) (m ∷ ms) = if ends_class body m then class_token at (class_of body) ∷ tokens_of None ms else tokens_of (Some (at, body ++ m ∷ [])) ms
+tokens_of None (m ∷ ms) = if is_plain open_bracket m && closes [] ms then tokens_of (Some (m.at, [])) ms else token_of m ∷ tokens_of None ms
+tokens_of (Some (at, body)) (m ∷ ms) = if ends body m then class_token at (class_of ExclamationMark body) ∷ tokens_of None ms else tokens_of (Some (at, body ++ m ∷ [])) ms
 
 abbrev pub is_slash_sign : Sign → Bool
 is_slash_sign sign.Slash = true
 is_slash_sign other = false
 
 abbrev pub is_dot_atom : Atom → Bool
-is_dot_atom (atom.Char c) = c == 46
+is_dot_atom (atom.Char c) = c == period
 is_dot_atom other = false
 
 -- the character `.`, quoted or not

@@ -2,9 +2,12 @@
 ghost use Rattle.std.specs.Prelude.{◌≡◌, IfOk};
 ghost use Rattle.std.specs.List.{list_all};
 ghost use Rattle.glob_syntax.specs.Atoms.{is_listed, class_takes, accepts, is_char, is_star};
+ghost use Rattle.glob_syntax.specs.Match.{spells_name};
 
+use crate::characters::Characters;
 use std::alloc::{AllocError, Global};
 use std::marker::Model;
+use wildcards::Item;
 
 /// A set of characters: those in one of the ranges, or where it is negated all others. A range holds its first and
 /// its last character, and is empty where they are reversed.
@@ -79,20 +82,8 @@ impl Atom {
         }
     }
 
-    /// Whether the atom takes this one character. A `*` takes a run and no single character.
-    pub fn accepts(&self, c: char) -> bool
-        ensures { result ≡ accepts self.now c }
-    {
-        match self {
-            Atom::Star => false,
-            Atom::One => true,
-            Atom::Char(d) => c == *d,
-            Atom::OneOf(class) => class.takes(c),
-        }
-    }
-
     /// Whether it is a plain character.
-    pub fn is_char(&self) -> bool
+    fn is_char(&self) -> bool
         ensures { result ≡ is_char self.now }
     {
         matches!(self, Atom::Char(_))
@@ -103,6 +94,26 @@ impl Atom {
         ensures { result ≡ is_star self.now }
     {
         matches!(self, Atom::Star)
+    }
+}
+
+impl Item<char> for Atom {
+    ghost is_run = { is_star };
+
+    ghost takes = { accepts };
+
+    fn is_run(&self) -> bool {
+        self.is_star()
+    }
+
+    /// Whether the atom takes this one character. A `*` takes a run and no single character.
+    fn takes(&self, c: &char) -> bool {
+        match self {
+            Atom::Star => false,
+            Atom::One => true,
+            Atom::Char(d) => *c == *d,
+            Atom::OneOf(class) => class.takes(*c),
+        }
     }
 }
 
@@ -128,10 +139,18 @@ impl Name {
         Name { atoms }
     }
 
-    pub fn atoms(&self) -> &[Atom]
+    fn atoms(&self) -> &[Atom]
         ensures { result.now ≡ self.now }
     {
         self.atoms.as_slice()
+    }
+
+    /// Whether it takes the whole text.
+    #[tactic(auto, unfolding(crate::specs::Match::spells_name))]
+    pub fn takes(&self, text: &str) -> bool
+        ensures { result ≡ spells_name self.now text.now }
+    {
+        wildcards::spells(self.atoms(), Characters::of(text))
     }
 
     pub(crate) fn copy(&self, alloc: Global) -> Result<Name, AllocError>

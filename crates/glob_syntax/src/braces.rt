@@ -4,9 +4,7 @@ ghost use Rattle.glob_syntax.specs.Braces.{has_close, parts_from, brace_fault};
 
 use crate::error::GlobErr;
 use crate::token::{Sign, Token};
-
-/// How many alternatives a glob may have.
-const MAX_ALTERNATIVES: u128 = 256;
+use rel_path::limits::MAX_ALTERNATIVES;
 
 /// Whether a `}` comes.
 pub(crate) fn has_close(tokens: &[Token]) -> bool

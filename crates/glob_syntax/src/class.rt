@@ -1,27 +1,47 @@
 // Classes, from `[` to `]`.
 ghost use Rattle.std.specs.Prelude.{◌≡◌, ◌<◌, ◌∷◌, ℕ, [], length, IfOk, IfSome, MatchOption, Some, None, true, false};
 ghost use Rattle.glob_syntax.specs.Marks.{is_plain};
-ghost use Rattle.glob_syntax.specs.Tokens.{has_member, ends_class, has_end, closes, members, class_of, class_token, tokens_of};
+ghost use Rattle.glob_syntax.specs.Classes.{negates, has_member, ends_class, members, class_of};
+ghost use Rattle.glob_syntax.specs.Tokens.{has_end, closes, class_token, tokens_of};
 
 use crate::atom::Class;
 use crate::mark::Mark;
 use std::alloc::{AllocError, Global};
 
+/// Which signs negate a class where they stand first in it.
+#[derive(Clone, Copy, Debug)]
+pub enum Negation {
+    /// `!`
+    ExclamationMark,
+    /// `!` and `^`
+    ExclamationMarkOrCircumflex,
+}
+
+fn negates(negation: Negation, mark: &Mark) -> bool
+    ensures { result ≡ negates negation mark.now }
+{
+    match negation {
+        Negation::ExclamationMark => mark.is_plain('!'),
+        Negation::ExclamationMarkOrCircumflex => mark.is_plain('!') || mark.is_plain('^'),
+    }
+}
+
 /// Whether the characters of a class so far have a member, so that a `]` ends it.
-fn has_member(body: &[Mark]) -> bool
-    ensures { result ≡ has_member body.now }
+fn has_member(negation: Negation, body: &[Mark]) -> bool
+    ensures { result ≡ has_member negation body.now }
 {
     match body {
         [] => false,
-        [only] => !only.is_plain('!'),
+        [only] => !negates(negation, only),
         _ => true,
     }
 }
 
-fn ends_class(body: &[Mark], mark: &Mark) -> bool
-    ensures { result ≡ ends_class body.now mark.now }
+/// Whether the mark is the `]` that ends the class with this behind its `[`.
+pub fn ends_class(negation: Negation, body: &[Mark], mark: &Mark) -> bool
+    ensures { result ≡ ends_class negation body.now mark.now }
 {
-    mark.is_plain(']') && has_member(body)
+    mark.is_plain(']') && has_member(negation, body)
 }
 
 /// Whether a `]` comes before a `/`.
@@ -60,11 +80,12 @@ fn read_members(alloc: Global, body: &[Mark]) -> Result<Vec<(char, char)>, Alloc
     Ok(ranges)
 }
 
-fn class_of(alloc: Global, body: &[Mark]) -> Result<Class, AllocError>
-    ensures { IfOk result (λ r. r ≡ class_of body.now) }
+/// The class with this between its `[` and `]`.
+pub fn class_of(alloc: Global, negation: Negation, body: &[Mark]) -> Result<Class, AllocError>
+    ensures { IfOk result (λ r. r ≡ class_of negation body.now) }
 {
     match body {
-        [first, inside @ ..] if first.is_plain('!') => {
+        [first, inside @ ..] if negates(negation, first) => {
             let ranges = read_members(alloc, inside)?;
             Ok(Class::new(true, ranges))
         }
@@ -89,8 +110,8 @@ pub(crate) fn read_class<'a>(
         if mark.is_slash() {
             return Ok(None);
         }
-        if ends_class(&body, mark) {
-            let class = class_of(alloc, &body)?;
+        if ends_class(Negation::ExclamationMark, &body, mark) {
+            let class = class_of(alloc, Negation::ExclamationMark, &body)?;
             return Ok(Some((class, behind)));
         }
         body.push(*mark)?;

@@ -2,7 +2,6 @@
 ghost use Rattle.std.specs.Prelude.{◌≡◌};
 ghost use Rattle.glob_syntax.specs.declared.error.GlobErr.TheVariants.{OutOfMemory};
 
-use rel_path::PathErr;
 use std::alloc::{AllocError, AllocFailed};
 use thiserror::Error;
 
@@ -21,7 +20,7 @@ pub enum GlobErr {
     /// The component that begins at the place is `..`.
     #[error("Climbs {at}")]
     Climbs { at: u64 },
-    /// With the braces that the `{` at the place begins there are more than 256 alternatives.
+    /// With the braces that the `{` at the place begins there are more than `MAX_ALTERNATIVES`.
     #[error("Wide {at}")]
     Wide { at: u64 },
     #[error("OutOfMemory")]
@@ -69,15 +68,6 @@ impl<T: Drop> From<AllocFailed<T>> for GlobErr {
     ghost from_gives = { λ _ e. e ≡ OutOfMemory };
 
     fn from(_error: AllocFailed<T>) -> GlobErr {
-        GlobErr::OutOfMemory
-    }
-}
-
-/// For calls of `rel_path` that fail for want of memory alone.
-impl From<PathErr> for GlobErr {
-    ghost from_gives = { λ _ e. e ≡ OutOfMemory };
-
-    fn from(_error: PathErr) -> GlobErr {
         GlobErr::OutOfMemory
     }
 }

@@ -7,6 +7,7 @@
 
 mod atom;
 mod braces;
+mod characters;
 mod class;
 mod climb;
 mod error;
@@ -18,6 +19,8 @@ mod read;
 mod token;
 
 pub use atom::{Atom, Class, Name};
+pub use class::{Negation, class_of, ends_class};
 pub use error::GlobErr;
-pub use part::{Alternative, Part};
+pub use mark::{Mark, read_marks};
+pub use part::{Alternative, Part, spells_path};
 pub use read::read_alternatives;

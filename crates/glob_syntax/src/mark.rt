@@ -1,6 +1,7 @@
 // The characters of a text, and which of them are quoted.
 ghost use Rattle.std.specs.Prelude.{◌≡◌, ◌+◌, ◌<◌, ◌^◌, ◌∷◌, [], IfOk, IfSome, IsUtf8, MatchOption, length, not, ◌&&◌, ◌==◌};
 ghost use Rattle.std.specs.Str.{chars};
+ghost use Rattle.glob_syntax.specs.Characters.{backslash};
 ghost use Rattle.glob_syntax.specs.Marks.{marks_of, is_plain, is_slash, NotQuoting};
 
 use rel_path::split_first_char;
@@ -8,7 +9,7 @@ use std::alloc::{AllocError, Global};
 
 /// A character, the place where it is written (that of the `\` where one quotes it), and whether one does.
 #[derive(Clone, Copy, Debug)]
-pub(crate) struct Mark {
+pub struct Mark {
     pub at: u64,
     pub quoted: bool,
     pub character: char,
@@ -32,7 +33,7 @@ impl Mark {
 
 /// The character that the one before it quotes, and what follows.
 fn quoted_by(c: char, behind: &str) -> Option<(char, &str)>
-    ensures quoted { MatchOption result (NotQuoting c (chars behind.now)) (λ r. (c ≡ 92) × (chars behind.now ≡ r.0 ∷ chars r.1.now)) }
+    ensures quoted { MatchOption result (NotQuoting c (chars behind.now)) (λ r. (c ≡ backslash) × (chars behind.now ≡ r.0 ∷ chars r.1.now)) }
     ensures text { IfSome result (λ r. IsUtf8 r.1.now) }
 {
     if c == '\\' {
@@ -43,7 +44,7 @@ fn quoted_by(c: char, behind: &str) -> Option<(char, &str)>
 }
 
 /// The characters of a text that begins at the place.
-pub(crate) fn read_marks(alloc: Global, start: u64, text: &str) -> Result<Vec<Mark>, AllocError>
+pub fn read_marks(alloc: Global, start: u64, text: &str) -> Result<Vec<Mark>, AllocError>
     requires { start + length text.now < 2 ^ 64 }
     ensures { IfOk result (λ r. r.items ≡ marks_of start (chars text.now)) }
 {

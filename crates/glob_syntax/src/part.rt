@@ -1,15 +1,18 @@
 // The parts of an alternative, from its tokens.
-ghost use Rattle.std.specs.Prelude.{◌≡◌, ◌++◌, [], IfOk, IfErr, OnOk, false, map};
+ghost use Rattle.std.specs.Prelude.{◌≡◌, ◌↔◌, ◌++◌, [], IsTrue, IfOk, IsOkUnless, OnOk, false, map};
 ghost use Rattle.std.specs.Option.{option_to_list};
 ghost use Rattle.glob_syntax.specs.Pieces.{seen};
+ghost use Rattle.glob_syntax.specs.Match.{is_span, takes_component, spells_path, SpellsPath};
 ghost use Rattle.glob_syntax.specs.Parts.{atom_of, name_from, part_of, parts_of};
 
 use crate::atom::{Atom, Name};
 use crate::error::GlobErr;
 use crate::piece::Tokens;
 use crate::token::{Sign, Token};
+use rel_path::Text;
 use std::alloc::{AllocError, Global};
 use std::marker::Model;
+use wildcards::Item;
 
 /// What stands between two slashes of a glob.
 #[derive(Debug, Drop)]
@@ -29,6 +32,32 @@ impl Part {
             Part::Named(name) => Ok(Part::Named(name.copy(alloc)?)),
         }
     }
+}
+
+impl Item<Text> for Part {
+    ghost is_run = { is_span };
+
+    ghost takes = { takes_component };
+
+    fn is_run(&self) -> bool {
+        matches!(self, Part::Span)
+    }
+
+    /// Whether the part takes this one component. A `**` takes any number of them and no single one.
+    fn takes(&self, component: &Text) -> bool {
+        match self {
+            Part::Span => false,
+            Part::Named(name) => name.takes(component.as_str()),
+        }
+    }
+}
+
+/// Whether the parts take the whole path.
+pub fn spells_path(parts: &[Part], path: &[Text]) -> bool
+    ensures value { result ≡ spells_path parts.now path.now }
+    ensures meaning { IsTrue result ↔ SpellsPath parts.now path.now }
+{
+    wildcards::spells(parts, path)
 }
 
 fn copy_of(alloc: Global, parts: &[Part]) -> Result<Vec<Part>, AllocError>
@@ -65,7 +94,7 @@ impl Alternative {
 
     pub fn copy(&self) -> Result<Alternative, GlobErr>
         ensures value { IfOk result (λ copy. copy ≡ self.now) }
-        ensures memory { IfErr result (λ e. e ≡ GlobErr.OutOfMemory) }
+        ensures memory { IsOkUnless result GlobErr.OutOfMemory }
     {
         let parts = copy_of(*self.parts.allocator(), self.parts())?;
         Ok(Alternative { parts })

@@ -5,25 +5,13 @@ use Rattle.std.specs.List.{list_any, list_all}
 use Rattle.std.proofs.lemmas.List.{length-take-le}
 use Rattle.std.proofs.lemmas.List.Folds.{Any-from_list_any, list_any-from_Any}
 use Rattle.std.proofs.lemmas.Bool.Decides.{nat_tests}
-use Rattle.std.specs.Str.{chars}
 use Rattle.rel_path.specs.Paths.{Path}
-use Rattle.wildcards.proofs.Decides.{spells_decides}
-use Rattle.glob_syntax.specs.Atoms.{accepts, is_char, is_star}
-use Rattle.glob_syntax.specs.declared.atom.Atom.{Atom}
+use Rattle.glob_syntax.specs.Atoms.{is_char}
+use Rattle.glob_syntax.specs.Match.{SpellsPath, spells_path}
+use Rattle.glob_syntax.proofs.Matching.{spells_path_decides}
 use Rattle.glob_syntax.specs.declared.part.Part.{Part}
 use Rattle.glob_syntax.specs.declared.part.Part.TheVariants.{Span, Named}
-use Rattle.globs.specs.Match.{is_span, are_plain, TakesChar, SpellsAtoms, TakesComponent, SpellsPath, IsAbovePath, AlternativeMatches, Matches, MatchesWhole, is_above, alternative_matches, matches, matches_whole, spells_atoms, spells_name, takes_component, spells_path}
-
-pub spells_atoms_decides : (atoms : List Atom) (cs : List ℕ) → IsTrue (spells_atoms atoms cs) ↔ SpellsAtoms atoms cs
-spells_atoms_decides = spells_decides is_star accepts TakesChar (λ atom c. (λ t. t, λ t. t))
-
-pub takes_component_decides : (part : Part) (component : List ℕ) → IsTrue (takes_component part component) ↔ TakesComponent part component
-unfolding spells_name
-takes_component_decides Span component = (λ t. cc, λ s. absurd s)
-takes_component_decides (Named atoms) component = spells_atoms_decides atoms (chars component)
-
-pub spells_path_decides : (parts : List Part) (path : Path) → IsTrue (spells_path parts path) ↔ SpellsPath parts path
-spells_path_decides = spells_decides is_span takes_component TakesComponent takes_component_decides
+use Rattle.globs.specs.Match.{are_plain, IsAbovePath, AlternativeMatches, Matches, MatchesWhole, is_above, alternative_matches, matches, matches_whole}
 
 both_true : (a b : Bool) → (a && b) ≡ true → (a ≡ true) × (b ≡ true)
 both_true true b e = (refl, e)

@@ -1,5 +1,4 @@
 pub mod Match
-pub mod Memory
 pub mod Lists
 pub mod Entries
 pub mod Outputs

@@ -6,6 +6,7 @@ use Rattle.rel_path.specs.Paths.{Path}
 use Rattle.glob_syntax.specs.declared.error.GlobErr.{GlobErr}
 use Rattle.glob_syntax.specs.declared.error.GlobErr.TheVariants as glob_err
 use Rattle.glob_syntax.specs.declared.part.Part.{Part}
+use Rattle.glob_syntax.specs.Characters.{exclamation_mark}
 use Rattle.glob_syntax.specs.Reading.{fault_at, glob_from}
 use Rattle.globs.specs.declared.error.ListGlobErr.{ListGlobErr}
 use Rattle.globs.specs.declared.error.ListGlobErr.TheVariants as err
@@ -16,17 +17,17 @@ use Rattle.globs.specs.Match.{Matches, MatchesWhole, matches, matches_whole}
 -- the characters begin with `!`
 abbrev pub begins_excluded : List ℕ → Bool
 begins_excluded [] = false
-begins_excluded (c ∷ cs) = c == 33
+begins_excluded (c ∷ cs) = c == exclamation_mark
 
 -- the glob behind a leading `!`, or the whole
 abbrev pub glob_behind : List ℕ → List (List Part)
 glob_behind [] = glob_from 0 []
-glob_behind (c ∷ cs) = if c == 33 then glob_from 1 cs else glob_from 0 (c ∷ cs)
+glob_behind (c ∷ cs) = if c == exclamation_mark then glob_from 1 cs else glob_from 0 (c ∷ cs)
 
 -- its fault, with the places in the whole
 abbrev pub fault_behind : List ℕ → Option GlobErr
 fault_behind [] = fault_at 0 []
-fault_behind (c ∷ cs) = if c == 33 then fault_at 1 cs else fault_at 0 (c ∷ cs)
+fault_behind (c ∷ cs) = if c == exclamation_mark then fault_at 1 cs else fault_at 0 (c ∷ cs)
 
 abbrev pub is_excluded : List ℕ → Bool
 is_excluded text = begins_excluded (chars text)

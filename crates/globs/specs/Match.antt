@@ -1,17 +1,11 @@
--- Which paths a glob matches: `*`, `?` and classes within a component, `**` for any number of components (globs of Turborepo's `inputs` and `outputs`; pattern matching notation of POSIX, Shell Command Language, section 2.13).
-use Rattle.std.specs.Prelude.{◌⊎◌, ◌<◌, ℕ, Bool, true, false, ◌&&◌, ◌||◌, nat_lt, List, length, take, IsTrue, Any}
+-- Which paths a glob matches (globs of Turborepo's `inputs` and `outputs`).
+use Rattle.std.specs.Prelude.{◌⊎◌, ◌<◌, ℕ, Bool, false, ◌&&◌, ◌||◌, nat_lt, List, length, take, IsTrue, Any}
 use Rattle.std.specs.List.{list_all, list_any}
-use Rattle.std.specs.Str.{chars}
 use Rattle.rel_path.specs.Paths.{Path}
-use Rattle.wildcards.specs.Spells.{Spells, spells}
-use Rattle.glob_syntax.specs.Atoms.{is_char, is_star, accepts}
-use Rattle.glob_syntax.specs.declared.atom.Atom.{Atom}
+use Rattle.glob_syntax.specs.Atoms.{is_char}
+use Rattle.glob_syntax.specs.Match.{SpellsPath, spells_path}
 use Rattle.glob_syntax.specs.declared.part.Part.{Part}
 use Rattle.glob_syntax.specs.declared.part.Part.TheVariants.{Span, Named}
-
-abbrev pub is_span : Part → Bool
-is_span Span = true
-is_span (Named atoms) = false
 
 -- without wildcards
 abbrev pub is_plain : Part → Bool
@@ -22,23 +16,6 @@ abbrev pub are_plain : List Part → Bool
 are_plain parts = list_all is_plain parts
 
 -- ---- as relations
-
--- the atom takes this one character
-abbrev pub TakesChar : Atom → ℕ → Type 0
-TakesChar atom c = IsTrue (accepts atom c)
-
--- the pattern takes these characters: a `*` any run of them, every other atom one
-abbrev pub SpellsAtoms : List Atom → List ℕ → Type 0
-SpellsAtoms atoms cs = Spells is_star TakesChar atoms cs
-
--- the part takes this one component
-abbrev pub TakesComponent : Part → List ℕ → Type 0
-TakesComponent Span component = ⊥
-TakesComponent (Named atoms) component = SpellsAtoms atoms (chars component)
-
--- the parts take the whole path: a span any number of components, every other part one
-abbrev pub SpellsPath : List Part → Path → Type 0
-SpellsPath parts path = Spells is_span TakesComponent parts path
 
 -- the parts take a proper prefix of the path
 abbrev pub IsAbovePath : List Part → Path → Type 0
@@ -57,19 +34,6 @@ unfoldable pub Matches : List (List Part) → Path → Type 0
 Matches glob path = Any (λ parts. AlternativeMatches parts path) glob
 
 -- ---- as tests
-
-abbrev pub spells_atoms : List Atom → List ℕ → Bool
-spells_atoms atoms cs = spells is_star accepts atoms cs
-
-unfoldable pub spells_name : List Atom → List ℕ → Bool
-spells_name atoms text = spells_atoms atoms (chars text)
-
-abbrev pub takes_component : Part → List ℕ → Bool
-takes_component Span component = false
-takes_component (Named atoms) component = spells_name atoms component
-
-abbrev pub spells_path : List Part → Path → Bool
-spells_path parts path = spells is_span takes_component parts path
 
 -- parts without wildcards take as many components as they are
 abbrev pub is_above : List Part → Path → Bool

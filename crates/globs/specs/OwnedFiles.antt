@@ -1,5 +1,5 @@
 -- The files that a task owns, as a part of all files: taken away, put in their place, and by themselves (Turborepo docs, "Caching": a hit restores the files of `outputs`; that a task's files are removed first is this project's own rule).
-use Rattle.std.specs.Prelude.{◌≡◌, ℕ, Bool, false, List, Option, None, if◌then◌else◌}
+use Rattle.std.specs.Prelude.{◌≡◌, ℕ, Bool, false, List, None, if◌then◌else◌}
 use Rattle.std.specs.List.{list_all}
 use Rattle.rel_path.specs.Paths.{Path}
 use Rattle.rel_path.specs.Files.{FileMap, file_at}

@@ -3,7 +3,6 @@ ghost use Rattle.std.specs.Prelude.{◌≡◌};
 ghost use Rattle.globs.specs.declared.error.ListGlobErr.TheVariants.{OutOfMemory};
 
 use glob_syntax::GlobErr;
-use rel_path::PathErr;
 use std::alloc::{AllocError, AllocFailed};
 use thiserror::Error;
 
@@ -30,15 +29,6 @@ impl<T: Drop> From<AllocFailed<T>> for ListGlobErr {
     ghost from_gives = { λ _ e. e ≡ OutOfMemory };
 
     fn from(_error: AllocFailed<T>) -> ListGlobErr {
-        ListGlobErr::OutOfMemory
-    }
-}
-
-/// For calls of `rel_path` that fail for want of memory alone.
-impl From<PathErr> for ListGlobErr {
-    ghost from_gives = { λ _ e. e ≡ OutOfMemory };
-
-    fn from(_error: PathErr) -> ListGlobErr {
         ListGlobErr::OutOfMemory
     }
 }

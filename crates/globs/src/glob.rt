@@ -1,14 +1,12 @@
-// Globs, and the walk over the components of a path.
-ghost use Rattle.std.specs.Prelude.{◌≡◌, ◌↔◌, ◌<◌, ◌≤◌, ◌+◌, ◌^◌, length, IsTrue, IfOk, IfErr, None};
-ghost use Rattle.std.specs.List.{list_all};
+// Globs.
+ghost use Rattle.std.specs.Prelude.{◌≡◌, ◌↔◌, ◌<◌, ◌≤◌, ◌+◌, ◌^◌, length, IsTrue, IfOk, IfErr, IsOkUnless, None};
 ghost use Rattle.std.specs.Str.{chars};
-ghost use Rattle.wildcards.specs.Spells.{after_some};
+ghost use Rattle.rel_path.specs.Limits.{alternative_limit};
 ghost use Rattle.glob_syntax.specs.Reading.{fault_at, glob_from, MayRefuse};
-ghost use Rattle.globs.specs.Match.{is_span, is_plain, are_plain, takes_component, spells_path, is_above, alternative_matches, matches, matches_whole, Matches, MatchesWhole};
+ghost use Rattle.globs.specs.Match.{is_plain, are_plain, is_above, alternative_matches, matches, matches_whole, Matches, MatchesWhole};
 ghost use Rattle.globs.specs.Entries.{match_as};
 
-use crate::name::spells_name;
-use glob_syntax::{Alternative, GlobErr, Part, read_alternatives};
+use glob_syntax::{Alternative, GlobErr, Part, read_alternatives, spells_path};
 use rel_path::{RelPath, Text};
 use std::alloc::Global;
 use std::marker::Model;
@@ -34,7 +32,7 @@ impl Glob {
     pub fn read(alloc: Global, text: &str) -> Result<Glob, GlobErr>
         ensures value { IfOk result (λ glob. glob ≡ glob_from 0 (chars text.now)) }
         ensures whole { IfOk result (λ glob. fault_at 0 (chars text.now) ≡ None) }
-        ensures few { IfOk result (λ glob. length glob ≤ 256) }
+        ensures few { IfOk result (λ glob. length glob ≤ alternative_limit) }
         ensures err { IfErr result (MayRefuse (fault_at 0 (chars text.now))) }
     {
         let _len = text.len();
@@ -46,7 +44,7 @@ impl Glob {
         requires { start + length text.now < 2 ^ 64 }
         ensures value { IfOk result (λ glob. glob ≡ glob_from start (chars text.now)) }
         ensures whole { IfOk result (λ glob. fault_at start (chars text.now) ≡ None) }
-        ensures few { IfOk result (λ glob. length glob ≤ 256) }
+        ensures few { IfOk result (λ glob. length glob ≤ alternative_limit) }
         ensures err { IfErr result (MayRefuse (fault_at start (chars text.now))) }
     {
         let alternatives = read_alternatives(alloc, start, text)?;
@@ -107,7 +105,7 @@ impl Glob {
 
     pub fn copy(&self) -> Result<Glob, GlobErr>
         ensures value { IfOk result (λ copy. copy ≡ self.now) }
-        ensures memory { IfErr result (λ e. e ≡ GlobErr.OutOfMemory) }
+        ensures memory { IsOkUnless result GlobErr.OutOfMemory }
     {
         let alternatives = copy_of(*self.alternatives.allocator(), self.alternatives())?;
         Ok(Glob { alternatives })
@@ -116,19 +114,13 @@ impl Glob {
 
 fn copy_of(alloc: Global, alternatives: &[Alternative]) -> Result<Vec<Alternative>, GlobErr>
     ensures value { IfOk result (λ copy. copy.items ≡ alternatives.now) }
-    ensures memory { IfErr result (λ e. e ≡ GlobErr.OutOfMemory) }
+    ensures memory { IsOkUnless result GlobErr.OutOfMemory }
 {
     let mut copy = Vec::new(alloc);
     for alternative in alternatives {
         copy.push(alternative.copy()?)?;
     }
     Ok(copy)
-}
-
-fn is_span(part: &Part) -> bool
-    ensures { result ≡ is_span part.now }
-{
-    matches!(part, Part::Span)
 }
 
 /// Without wildcards.
@@ -141,25 +133,10 @@ fn is_plain(part: &Part) -> bool
     }
 }
 
-fn takes_component(part: &Part, component: &Text) -> bool
-    ensures { result ≡ takes_component part.now component.now }
-{
-    match part {
-        Part::Span => false,
-        Part::Named(name) => spells_name(name.atoms(), component.as_str()),
-    }
-}
-
 fn are_plain(parts: &[Part]) -> bool
     ensures { result ≡ are_plain parts.now }
 {
     parts.iter().all(|part| is_plain(part))
-}
-
-fn are_spans(parts: &[Part]) -> bool
-    ensures { result ≡ list_all is_span parts.now }
-{
-    parts.iter().all(|part| is_span(part))
 }
 
 fn alternative_matches(parts: &[Part], path: &[Text]) -> bool
@@ -173,58 +150,4 @@ fn is_above(parts: &[Part], path: &[Text]) -> bool
     ensures { result ≡ is_above parts.now path.now }
 {
     parts.len() < path.len() && spells_path(parts, &path[..parts.len()])
-}
-
-/// Whether the parts take the whole path. Up to the first span each takes one component.
-fn spells_path(parts: &[Part], path: &[Text]) -> bool
-    ensures { result ≡ spells_path parts.now path.now }
-{
-    let mut items = parts;
-    let mut rest = path;
-    while let Some((part, more)) = items.split_first() {
-        if is_span(part) {
-            return spells_somewhere(more, rest);
-        }
-        match rest.split_first() {
-            Some((component, behind)) if takes_component(part, component) => {
-                items = more;
-                rest = behind;
-            }
-            _ => return false,
-        }
-    }
-    rest.is_empty()
-}
-
-/// Whether the parts take the path from some component on. One walk in constant space: where it is stuck, it returns
-/// to the parts behind the last span and to the component behind the one at which it tried these last.
-fn spells_somewhere(parts: &[Part], path: &[Text]) -> bool
-    ensures { result ≡ after_some (spells_path parts.now) path.now }
-{
-    let mut back_items = parts;
-    let mut back = path;
-    let mut items = parts;
-    let mut rest = path;
-    while let Some((component, behind)) = rest.split_first() {
-        match items.split_first() {
-            Some((part, more)) if is_span(part) => {
-                back_items = more;
-                back = rest;
-                items = more;
-            }
-            Some((part, more)) if takes_component(part, component) => {
-                items = more;
-                rest = behind;
-            }
-            _ => match back.split_first() {
-                Some((_, later)) => {
-                    back = later;
-                    rest = later;
-                    items = back_items;
-                }
-                None => return false,
-            },
-        }
-    }
-    are_spans(items)
 }

@@ -8,7 +8,6 @@
 mod error;
 mod glob;
 mod list;
-mod name;
 mod out_set;
 
 pub use error::ListGlobErr;

@@ -1,9 +1,8 @@
 // Lists of globs.
-ghost use Rattle.std.specs.Prelude.{◌≡◌, ◌↔◌, ◌++◌, ◌∷◌, [], IsTrue, IfOk, IfErr, OnOk, OnErr, None};
+ghost use Rattle.std.specs.Prelude.{◌≡◌, ◌↔◌, ◌++◌, ◌∷◌, [], IsTrue, IfOk, IfErr, IsOkUnless, OnOk, OnErr, None};
 ghost use Rattle.std.specs.Str.{chars};
 ghost use Rattle.glob_syntax.specs.Reading.{MayRefuse};
 ghost use Rattle.globs.specs.declared.error.ListGlobErr.TheVariants.{OutOfMemory};
-ghost use Rattle.globs.specs.Memory.{OnlyMemory};
 ghost use Rattle.globs.specs.Lists.{fault_in, list_fault, MayRefuseList, IsRefusal, Takes, TakesWhole, list_takes, list_takes_whole};
 ghost use Rattle.globs.specs.Entries.{entry_of, entries_of, any_matches, takes_entries};
 
@@ -24,7 +23,7 @@ pub(crate) struct Entry {
 impl Entry {
     fn copy(&self) -> Result<Entry, ListGlobErr>
         ensures value { IfOk result (λ copy. copy ≡ self.now) }
-        ensures memory { OnlyMemory result }
+        ensures memory { IsOkUnless result ListGlobErr.OutOfMemory }
     {
         match self.glob.copy() {
             Ok(glob) => Ok(Entry {
@@ -106,7 +105,7 @@ impl GlobList {
 
     pub fn copy(&self) -> Result<GlobList, ListGlobErr>
         ensures value { IfOk result (λ copy. copy ≡ self.now) }
-        ensures memory { OnlyMemory result }
+        ensures memory { IsOkUnless result ListGlobErr.OutOfMemory }
     {
         let entries = copy_of(*self.entries.allocator(), self.entries())?;
         let texts = self.texts.copy()?;
@@ -116,7 +115,7 @@ impl GlobList {
 
 fn copy_of(alloc: Global, entries: &[Entry]) -> Result<Vec<Entry>, ListGlobErr>
     ensures value { IfOk result (λ copy. copy.items ≡ entries.now) }
-    ensures memory { OnlyMemory result }
+    ensures memory { IsOkUnless result ListGlobErr.OutOfMemory }
 {
     let mut copy = Vec::new(alloc);
     for entry in entries {
@@ -218,7 +217,7 @@ impl GlobLists {
     pub fn push(&mut self, item: GlobList) -> Result<(), ListGlobErr>
         ensures pushed { OnOk result (self.new ≡ self.old ++ item ∷ []) }
         ensures kept { OnErr result (self.new ≡ self.old) }
-        ensures memory { OnlyMemory result }
+        ensures memory { IsOkUnless result ListGlobErr.OutOfMemory }
     {
         self.items.push(item)?;
         Ok(())
@@ -244,7 +243,7 @@ impl GlobLists {
 
     pub fn copy(&self) -> Result<GlobLists, ListGlobErr>
         ensures value { IfOk result (λ copy. copy ≡ self.now) }
-        ensures memory { OnlyMemory result }
+        ensures memory { IsOkUnless result ListGlobErr.OutOfMemory }
     {
         let items = copies_of(*self.items.allocator(), self.as_slice())?;
         Ok(GlobLists { items })
@@ -253,7 +252,7 @@ impl GlobLists {
 
 fn copies_of(alloc: Global, lists: &[GlobList]) -> Result<Vec<GlobList>, ListGlobErr>
     ensures value { IfOk result (λ copy. copy.items ≡ lists.now) }
-    ensures memory { OnlyMemory result }
+    ensures memory { IsOkUnless result ListGlobErr.OutOfMemory }
 {
     let mut copy = Vec::new(alloc);
     for list in lists {

@@ -1,7 +1,6 @@
 // The output set of a task: what it declares, owns and shares.
-ghost use Rattle.std.specs.Prelude.{◌≡◌, ◌↔◌, ◌++◌, ◌∷◌, [], IsTrue, IfOk, OnOk, OnErr, MatchOption, Some, None};
+ghost use Rattle.std.specs.Prelude.{◌≡◌, ◌↔◌, ◌++◌, ◌∷◌, [], IsTrue, IfOk, IsOkUnless, OnOk, OnErr, MatchOption, Some, None};
 ghost use Rattle.rel_path.specs.Paths.{strip};
-ghost use Rattle.globs.specs.Memory.{OnlyMemory};
 ghost use Rattle.globs.specs.Outputs.{is_kept_folder, is_kept_file, may_declare, declares, any_declares, takes, shares, Owned, Shared};
 
 use crate::error::ListGlobErr;
@@ -59,7 +58,7 @@ impl OutSet {
 
     pub fn copy(&self) -> Result<OutSet, ListGlobErr>
         ensures value { IfOk result (λ copy. copy ≡ self.now) }
-        ensures memory { OnlyMemory result }
+        ensures memory { IsOkUnless result ListGlobErr.OutOfMemory }
     {
         let folder = self.folder.copy()?;
         let mine = self.mine.copy()?;
@@ -151,7 +150,7 @@ impl OutSets {
     pub fn push(&mut self, item: OutSet) -> Result<(), ListGlobErr>
         ensures pushed { OnOk result (self.new ≡ self.old ++ item ∷ []) }
         ensures kept { OnErr result (self.new ≡ self.old) }
-        ensures memory { OnlyMemory result }
+        ensures memory { IsOkUnless result ListGlobErr.OutOfMemory }
     {
         self.items.push(item)?;
         Ok(())
@@ -177,7 +176,7 @@ impl OutSets {
 
     pub fn copy(&self) -> Result<OutSets, ListGlobErr>
         ensures value { IfOk result (λ copy. copy ≡ self.now) }
-        ensures memory { OnlyMemory result }
+        ensures memory { IsOkUnless result ListGlobErr.OutOfMemory }
     {
         let items = copies_of(*self.items.allocator(), self.as_slice())?;
         Ok(OutSets { items })
@@ -186,7 +185,7 @@ impl OutSets {
 
 fn copies_of(alloc: Global, sets: &[OutSet]) -> Result<Vec<OutSet>, ListGlobErr>
     ensures value { IfOk result (λ copy. copy.items ≡ sets.now) }
-    ensures memory { OnlyMemory result }
+    ensures memory { IsOkUnless result ListGlobErr.OutOfMemory }
 {
     let mut copy = Vec::new(alloc);
     for set in sets {

@@ -9,10 +9,11 @@ use Rattle.rel_path.specs.Paths.{Path}
 use Rattle.wildcards.specs.Spells.{is_empty}
 use Rattle.wildcards.proofs.Decides.{and_decides}
 use Rattle.ignore_rules.specs.declared.rule.Rule.{Rule}
-use Rattle.ignore_rules.specs.Match.{spells_path}
-use Rattle.ignore_rules.specs.Ignored.{reached, takes, or_before, rule_says, says, verdict, leaves_out, left_out_below, is_ignored, Takes, rules_above, LeftOut, Ignored}
-use Rattle.ignore_rules.proofs.Decides.{spells_path_decides}
-use Rattle.ignore_rules.proofs.Says.{or_before_none, or_before_assoc, more_behind}
+use Rattle.glob_syntax.specs.Match.{spells_path}
+use Rattle.std.specs.Option.{option_or}
+use Rattle.ignore_rules.specs.Ignored.{reached, takes, rule_says, says, verdict, leaves_out, left_out_below, is_ignored, Takes, rules_above, LeftOut, Ignored}
+use Rattle.glob_syntax.proofs.Matching.{spells_path_decides}
+use Rattle.ignore_rules.proofs.Says.{option_or_none, option_or_assoc, more_behind}
 
 -- ---- one rule
 
@@ -43,17 +44,17 @@ some_takes_decides is_folder entries = (
 -- what the last of the rules says that takes the path
 abbrev entries_say : Bool → List Entry → Option Bool
 entries_say is_folder [] = None
-entries_say is_folder (entry ∷ entries) = or_before (entries_say is_folder entries) (rule_says is_folder entry.1 entry.0)
+entries_say is_folder (entry ∷ entries) = option_or (entries_say is_folder entries) (rule_says is_folder entry.1 entry.0)
 
-say_append : (is_folder : Bool) (xs ys : List Entry) → entries_say is_folder (xs ++ ys) ≡ or_before (entries_say is_folder ys) (entries_say is_folder xs)
-say_append is_folder [] ys = sym (or_before_none (entries_say is_folder ys))
+say_append : (is_folder : Bool) (xs ys : List Entry) → entries_say is_folder (xs ++ ys) ≡ option_or (entries_say is_folder ys) (entries_say is_folder xs)
+say_append is_folder [] ys = sym (option_or_none (entries_say is_folder ys))
 say_append is_folder (x ∷ xs) ys =
-    ap (λ o. or_before o (rule_says is_folder x.1 x.0)) (say_append is_folder xs ys)
-    ∙ sym (or_before_assoc (entries_say is_folder ys) (entries_say is_folder xs) (rule_says is_folder x.1 x.0))
+    ap (λ o. option_or o (rule_says is_folder x.1 x.0)) (say_append is_folder xs ys)
+    ∙ sym (option_or_assoc (entries_say is_folder ys) (entries_say is_folder xs) (rule_says is_folder x.1 x.0))
 
 say_map : (is_folder : Bool) (below : Path) (rules : List Rule) → entries_say is_folder (map (λ rule. (rule, below)) rules) ≡ says is_folder below rules
 say_map is_folder below [] = refl
-say_map is_folder below (rule ∷ rules) = ap (λ o. or_before o (rule_says is_folder below rule)) (say_map is_folder below rules)
+say_map is_folder below (rule ∷ rules) = ap (λ o. option_or o (rule_says is_folder below rule)) (say_map is_folder below rules)
 
 verdict_says : (rules : Path → List Rule) (is_folder : Bool) (above below : Path) → verdict rules is_folder above below ≡ entries_say is_folder (rules_above rules above below)
 unfolding verdict rules_above
@@ -61,7 +62,7 @@ verdict_says rules is_folder above [] = refl
 verdict_says rules is_folder above (name ∷ below) =
     rw (say_append is_folder (map (λ rule. (rule, name ∷ below)) (rules above)) (rules_above rules (above ++ name ∷ []) below), say_map is_folder (name ∷ below) (rules above), verdict_says rules is_folder (above ++ name ∷ []) below) refl
 
-nothing_said : (o : Option Bool) (t out : Bool) → or_before o (cond t (Some out) None) ≡ None → (o ≡ None) × (t ≡ false)
+nothing_said : (o : Option Bool) (t out : Bool) → option_or o (cond t (Some out) None) ≡ None → (o ≡ None) × (t ≡ false)
 nothing_said None true out e = cc
 nothing_said None false out e = (refl, refl)
 nothing_said (Some other) t out e = cc
@@ -88,7 +89,7 @@ left_out_in : (is_folder : Bool) (entries : List Entry) → unwrap_or (entries_s
 left_out_in is_folder [] e = absurd (false≢true e)
 left_out_in is_folder (x ∷ xs) e = by (entries_say is_folder xs) refl e (left_out_in is_folder xs)
   where
-    by : (o : Option Bool) → entries_say is_folder xs ≡ o → unwrap_or (or_before o (rule_says is_folder x.1 x.0)) false ≡ true → (unwrap_or (entries_say is_folder xs) false ≡ true → LeftOut is_folder xs) → LeftOut is_folder (x ∷ xs)
+    by : (o : Option Bool) → entries_say is_folder xs ≡ o → unwrap_or (option_or o (rule_says is_folder x.1 x.0)) false ≡ true → (unwrap_or (entries_say is_folder xs) false ≡ true → LeftOut is_folder xs) → LeftOut is_folder (x ∷ xs)
     by (Some out) h e later =
         let rest = later (rw h e) in
         record { before = x ∷ rest.before; rule = rest.rule; below = rest.below; after = rest.after; stands = ap (λ (entries : List Entry). x ∷ entries) rest.stands; taken = rest.taken; out = rest.out; last = rest.last }

@@ -1,4 +1,3 @@
-pub mod Decides
 pub mod Marks
 pub mod Parts
 pub mod Signs

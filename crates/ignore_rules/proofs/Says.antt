@@ -7,21 +7,22 @@ use Rattle.wildcards.specs.Spells.{is_empty}
 use Rattle.std.specs.Prelude.{Option, Some, None, nat_lt}
 use Rattle.rel_path.specs.Paths.{Path}
 use Rattle.ignore_rules.specs.declared.rule.Rule.{Rule}
-use Rattle.ignore_rules.specs.Ignored.{takes, or_before, rule_says, says, verdict, leaves_out, left_out_below}
+use Rattle.std.specs.Option.{option_or}
+use Rattle.ignore_rules.specs.Ignored.{takes, rule_says, says, verdict, leaves_out, left_out_below}
 
-pub or_before_none : (o : Option Bool) → or_before o None ≡ o
-or_before_none None = refl
-or_before_none (Some out) = refl
+pub option_or_none : (o : Option Bool) → option_or o None ≡ o
+option_or_none None = refl
+option_or_none (Some out) = refl
 
-pub or_before_assoc : (a b c : Option Bool) → or_before a (or_before b c) ≡ or_before (or_before a b) c
-or_before_assoc None b c = refl
-or_before_assoc (Some out) b c = refl
+pub option_or_assoc : (a b c : Option Bool) → option_or a (option_or b c) ≡ option_or (option_or a b) c
+option_or_assoc None b c = refl
+option_or_assoc (Some out) b c = refl
 
-pub says-last : (is_folder : Bool) (below : Path) (rules : List Rule) (rule : Rule) → says is_folder below (rules ++ rule ∷ []) ≡ or_before (rule_says is_folder below rule) (says is_folder below rules)
-says-last is_folder below [] rule = sym (or_before_none (rule_says is_folder below rule))
+pub says-last : (is_folder : Bool) (below : Path) (rules : List Rule) (rule : Rule) → says is_folder below (rules ++ rule ∷ []) ≡ option_or (rule_says is_folder below rule) (says is_folder below rules)
+says-last is_folder below [] rule = sym (option_or_none (rule_says is_folder below rule))
 says-last is_folder below (first ∷ rules) rule =
-    ap (λ o. or_before o (rule_says is_folder below first)) (says-last is_folder below rules rule)
-    ∙ sym (or_before_assoc (rule_says is_folder below rule) (says is_folder below rules) (rule_says is_folder below first))
+    ap (λ o. option_or o (rule_says is_folder below first)) (says-last is_folder below rules rule)
+    ∙ sym (option_or_assoc (rule_says is_folder below rule) (says is_folder below rules) (rule_says is_folder below first))
 
 pub says_taken : (is_folder : Bool) (below : Path) (rules : List Rule) (rule : Rule) → takes is_folder below rule ≡ true → says is_folder below (rules ++ rule ∷ []) ≡ Some (not rule.again)
 says_taken is_folder below rules rule e = says-last is_folder below rules rule ∙ rw e refl

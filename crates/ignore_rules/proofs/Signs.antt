@@ -1,7 +1,7 @@
 -- The signs of what is left, outside a class or inside one.
 use Rattle.std.proofs.Common.{◌≡◌, Bool, true, false, List, [], ◌∷◌, ◌++◌, refl, ap, append_assoc}
 use Rattle.std.specs.Prelude.{Option, Some, None}
-use Rattle.ignore_rules.specs.declared.mark.Mark.{Mark}
+use Rattle.glob_syntax.specs.declared.mark.Mark.{Mark}
 use Rattle.ignore_rules.specs.declared.sign.Sign.{Sign}
 use Rattle.ignore_rules.specs.Signs.{sign_onto}
 

@@ -1,9 +1,10 @@
 -- Which paths are ignored (gitignore: "the last matching pattern decides the outcome"; "It is not possible to re-include a file if a parent directory of that file is excluded").
 use Rattle.std.specs.Prelude.{◌≡◌, ◌<◌, ◌≤◌, ℕ, ◌-◌, Bool, true, false, not, ◌&&◌, ◌||◌, nat_lt, List, [], ◌∷◌, ◌++◌, length, take, drop, map, Any, Option, Some, None, unwrap_or, if◌then◌else◌}
+use Rattle.std.specs.Option.{option_or}
 use Rattle.rel_path.specs.Paths.{Path}
 use Rattle.wildcards.specs.Spells.{is_empty}
 use Rattle.ignore_rules.specs.declared.rule.Rule.{Rule}
-use Rattle.ignore_rules.specs.Match.{SpellsPath, spells_path}
+use Rattle.glob_syntax.specs.Match.{SpellsPath, spells_path}
 
 -- ---- what one rule takes, by what is left of a path below the folder of the rule's file
 
@@ -17,24 +18,22 @@ takes is_folder below rule = (not rule.folders_only || is_folder) && spells_path
 
 -- ---- what rules say
 
--- the later of two answers, where there is one
-abbrev pub or_before : Option Bool → Option Bool → Option Bool
-or_before None before = before
-or_before (Some out) before = Some out
-
 -- what a rule says of a path that it takes: whether it is left out
 abbrev pub rule_says : Bool → Path → Rule → Option Bool
 rule_says is_folder below rule = if takes is_folder below rule then Some (not rule.again) else None
 
--- what the last of the rules says that takes the path
+-- what the last of the rules says that takes the path: of two answers the later one, if there is
 abbrev pub says : Bool → Path → List Rule → Option Bool
 says is_folder below [] = None
-says is_folder below (rule ∷ rules) = or_before (says is_folder below rules) (rule_says is_folder below rule)
+says is_folder below (rule ∷ rules) =
+    option_or (says is_folder below rules) (rule_says is_folder below rule)
 
 -- What the last rule says that takes the path, of the files in the folders above it from the root down. The path is a folder on the way, above the second path, followed by that.
 unfoldable pub verdict : (Path → List Rule) → Bool → Path → Path → Option Bool
 verdict rules is_folder above [] = None
-verdict rules is_folder above (name ∷ below) = or_before (verdict rules is_folder (above ++ name ∷ []) below) (says is_folder (name ∷ below) (rules above))
+verdict rules is_folder above (name ∷ below) =
+    option_or (verdict rules is_folder (above ++ name ∷ []) below)
+    (says is_folder (name ∷ below) (rules above))
 
 -- a path is left out where the last rule that takes it says so
 unfoldable pub leaves_out : (Path → List Rule) → Bool → Path → Bool

@@ -1,10 +1,8 @@
 pub mod Marks
 pub mod Lines
-pub mod Classes
 pub mod Signs
 pub mod Parts
 pub mod Rules
-pub mod Match
 pub mod Ignored
 pub mod Stacks
 pub mod Entries

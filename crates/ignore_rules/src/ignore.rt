@@ -46,8 +46,9 @@ impl Ignore {
     /// - `*` takes any run of characters of a name, `?` one, a class one of its members; `[!` and `[^` negate, a first
     ///   `]` is a member, `a-z` is a range by scalar value, empty where it is reversed; a `/` in a class takes nothing,
     ///   and counts as one in the middle. `[:alpha:]` has no meaning of its own, which differs from git.
-    /// - A component `**` takes any number of components, at the end of a pattern at least one. An empty component, as
-    ///   in `a//b`, takes nothing.
+    /// - A component `**` takes any number of components, at least one at the end of a pattern and
+    ///   before a `/` that is quoted: `a/**/x` takes `a/x`, and `a/**\/x` does not, as in git. An
+    ///   empty component, as in `a//b`, takes nothing.
     /// - A line that is not UTF-8, whose class does not end, or that is empty or ends in a `\` that quotes nothing
     ///   after all this, takes nothing.
     pub fn read(alloc: Global, folder: &RelPath, bytes: &[u8]) -> Result<Ignore, IgnoreErr>

@@ -4,14 +4,10 @@
 //! and which paths are ignored, as a relation (`Ignored`) and as a test (`is_ignored`).
 #![tactic(auto)]
 
-mod class;
 mod error;
 mod ignore;
 mod line;
-mod mark;
-mod name;
 mod part;
-mod pattern;
 mod rule;
 mod sign;
 mod stack;

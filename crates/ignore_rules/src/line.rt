@@ -4,7 +4,7 @@ ghost use Rattle.std.specs.List.{slice_split};
 ghost use Rattle.ignore_rules.specs.Lines.{behind_mark, is_newline, without_return};
 ghost use Rattle.ignore_rules.specs.Marks.{trimmed};
 
-use crate::mark::Mark;
+use glob_syntax::Mark;
 
 /// The bytes behind a byte order mark in front, or all.
 pub(crate) fn behind_mark(bytes: &[u8]) -> &[u8]

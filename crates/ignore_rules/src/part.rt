@@ -1,6 +1,6 @@
-// The parts of a pattern, one for each of its components.
-ghost use Rattle.std.specs.Prelude.{◌≡◌, IfOk};
-ghost use Rattle.ignore_rules.specs.Parts.{is_double, part_of, any_name, parts_of};
+// The parts of a pattern, by its components.
+ghost use Rattle.std.specs.Prelude.{◌≡◌, ◌++◌, IfOk, OnOk};
+ghost use Rattle.ignore_rules.specs.Parts.{is_double, any_name, parts_written, parts_of};
 
 use crate::sign::Sign;
 use glob_syntax::{Atom, Name, Part};
@@ -48,16 +48,6 @@ fn is_double(atoms: &[Atom]) -> bool
     }
 }
 
-fn part_of(atoms: Vec<Atom>) -> Part
-    ensures { result ≡ part_of atoms.items }
-{
-    if is_double(&atoms) {
-        Part::Span
-    } else {
-        Part::Named(Name::new(atoms))
-    }
-}
-
 /// The part that takes any one component.
 fn any_name(alloc: Global) -> Result<Part, AllocError>
     ensures { IfOk result (λ part. part ≡ any_name) }
@@ -67,6 +57,26 @@ fn any_name(alloc: Global) -> Result<Part, AllocError>
     Ok(Part::Named(Name::new(atoms)))
 }
 
+/// Adds the parts that the component writes, by whether a plain `/` follows it.
+fn push_component(
+    alloc: Global,
+    parts: &mut Vec<Part>,
+    atoms: Vec<Atom>,
+    plain_follows: bool,
+) -> Result<(), AllocError>
+    ensures { OnOk result (parts.new.items ≡ parts.old.items ++ parts_written (atoms.items, plain_follows)) }
+{
+    if !is_double(&atoms) {
+        parts.push(Part::Named(Name::new(atoms)))?;
+        return Ok(());
+    }
+    parts.push(Part::Span)?;
+    if !plain_follows {
+        parts.push(any_name(alloc)?)?;
+    }
+    Ok(())
+}
+
 fn read_parts(alloc: Global, signs: Vec<Sign>) -> Result<Vec<Part>, AllocError>
     ensures { IfOk result (λ r. r.items ≡ parts_of signs.items) }
 {
@@ -74,17 +84,13 @@ fn read_parts(alloc: Global, signs: Vec<Sign>) -> Result<Vec<Part>, AllocError>
     let mut component = Vec::new(alloc);
     for sign in signs {
         match sign {
-            Sign::Slash => {
-                parts.push(part_of(component))?;
+            Sign::Slash { quoted } => {
+                push_component(alloc, &mut parts, component, !quoted)?;
                 component = Vec::new(alloc);
             }
             Sign::Atom(atom) => component.push(atom)?,
         }
     }
-    let needs_more = is_double(&component);
-    parts.push(part_of(component))?;
-    if needs_more {
-        parts.push(any_name(alloc)?)?;
-    }
+    push_component(alloc, &mut parts, component, false)?;
     Ok(parts)
 }

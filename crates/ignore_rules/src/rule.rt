@@ -2,15 +2,19 @@
 ghost use Rattle.std.specs.Prelude.{◌≡◌, ◌++◌, OnOk, IfOk, MatchOption, Some, None};
 ghost use Rattle.std.specs.Option.{option_to_list};
 ghost use Rattle.std.specs.List.{list_any};
-ghost use Rattle.ignore_rules.specs.Marks.{is_slash, is_plain, without_first_slash};
+ghost use Rattle.glob_syntax.specs.Marks.{is_slash};
+ghost use Rattle.ignore_rules.specs.Marks.{dangles, without_first_slash};
 ghost use Rattle.ignore_rules.specs.Rules.{cut_end, rule_from, rule_in, rule_of, rules_of};
 
 use crate::line::{behind_mark, split_line, trimmed, without_return};
-use crate::mark::{Mark, read_marks};
 use crate::part::Parts;
 use crate::sign::read_signs;
+use glob_syntax::{Mark, read_marks};
 use std::alloc::{AllocError, Global};
 use std::str;
+
+/// The place of the first character of a line.
+const FIRST_PLACE: u64 = 0;
 
 /// A rule: what the last of them says that takes a path decides it.
 #[derive(Debug, Drop)]
@@ -28,6 +32,13 @@ fn has_slash(marks: &[Mark]) -> bool
     ensures { result ≡ list_any is_slash marks.now }
 {
     marks.iter().any(|mark| mark.is_slash())
+}
+
+/// Whether a `\` quotes nothing where this ends a pattern, once a trailing `/` is taken off.
+fn dangles(mark: &Mark) -> bool
+    ensures { result ≡ dangles mark.now }
+{
+    mark.is_plain('\\') || mark.quoted && mark.is_slash()
 }
 
 /// The pattern without a `/` at its front.
@@ -48,7 +59,7 @@ fn cut_end(marks: &[Mark]) -> Option<(bool, &[Mark])>
     let Some((last, front)) = marks.split_last() else {
         return Some((false, marks));
     };
-    if last.dangles() {
+    if dangles(last) {
         return None;
     }
     if last.is_plain('/') {
@@ -97,7 +108,8 @@ fn rule_of(alloc: Global, line: &[u8]) -> Result<Option<Rule>, AllocError>
 {
     match str::from_utf8(without_return(line)) {
         Ok(text) => {
-            let marks = read_marks(alloc, text)?;
+            let _len = text.len();
+            let marks = read_marks(alloc, FIRST_PLACE, text)?;
             rule_in(alloc, trimmed(&marks))
         }
         Err(_) => Ok(None),

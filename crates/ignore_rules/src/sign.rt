@@ -2,16 +2,17 @@
 ghost use Rattle.std.specs.Prelude.{◌≡◌, IfOk, MatchOption, Some, None};
 ghost use Rattle.ignore_rules.specs.Signs.{plain_atom, sign_of, signs_from};
 
-use crate::class::{class_of, ends_class};
-use crate::mark::Mark;
-use glob_syntax::Atom;
+use glob_syntax::{Atom, Mark, Negation, class_of, ends_class};
 use std::alloc::{AllocError, Global};
+
+/// git takes `^` for `!` in front of a class.
+const NEGATION: Negation = Negation::ExclamationMarkOrCircumflex;
 
 /// What one character of a pattern, or one class, says.
 #[derive(Debug, Drop)]
 pub(crate) enum Sign {
-    /// `/`
-    Slash,
+    /// `/`, and whether a `\` quotes it.
+    Slash { quoted: bool },
     Atom(Atom),
 }
 
@@ -30,7 +31,9 @@ fn sign_of(mark: &Mark) -> Sign
     ensures { result ≡ sign_of mark.now }
 {
     if mark.is_slash() {
-        Sign::Slash
+        Sign::Slash {
+            quoted: mark.quoted,
+        }
     } else if mark.quoted {
         Sign::Atom(Atom::Char(mark.character))
     } else {
@@ -54,8 +57,8 @@ pub(crate) fn read_signs(alloc: Global, marks: &[Mark]) -> Result<Option<Vec<Sig
             } else {
                 signs.push(sign_of(mark))?;
             }
-        } else if ends_class(&body, mark) {
-            let class = class_of(alloc, &body)?;
+        } else if ends_class(NEGATION, &body, mark) {
+            let class = class_of(alloc, NEGATION, &body)?;
             signs.push(Sign::Atom(Atom::OneOf(class)))?;
             inside = false;
         } else {

@@ -7,8 +7,8 @@ ghost use Rattle.ignore_rules.specs.Entries.{entries_at};
 
 use crate::error::IgnoreErr;
 use crate::ignore::Ignore;
-use crate::pattern::spells_path;
 use crate::rule::Rule;
+use glob_syntax::spells_path;
 use rel_path::{RelPath, Text};
 use std::alloc::Global;
 use std::collections::BTreeMap;

@@ -33,10 +33,6 @@ Answers there at shape (Err (WrongKind pointer wanted)) = (there ≡ Else) × (p
 Answers there at shape (Err (OpenComment at_byte)) = ⊥
 Answers there at shape (Err OutOfMemory) = there ≢ Nothing
 
--- the only error is want of memory
-abbrev pub IsMemory : JsonErr → Type 0
-IsMemory e = e ≡ OutOfMemory
-
 -- WrongKind with this pointer and shape, or memory is wanting for the pointer
 abbrev pub IsWrong : List ℕ → Shape → JsonErr → Type 0
 IsWrong at shape NotJson = ⊥

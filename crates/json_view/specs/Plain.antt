@@ -1,6 +1,6 @@
 -- JSON with Comments (jsonc.org), as editors write it: what each byte belongs to, and the text that has blanks over comments and trailing commas.
--- Bytes: 9 tab, 10 newline, 13 carriage return, 32 space, 34 `"`, 42 `*`, 44 `,`, 47 `/`, 92 `\`, 93 `]`, 125 `}`.
 use Rattle.std.specs.Prelude.{◌≡◌, ◌==◌, ◌+◌, ◌&&◌, ◌||◌, ◌⊎◌, ℕ, List, [], ◌∷◌, length, drop, slice_index, Bool, true, false, not, Option, Some, None, Result, Ok, Err, if◌then◌else◌, ⊤}
+use Rattle.json_view.specs.declared.bytes.TheConstants.{TAB, LINE_FEED, CARRIAGE_RETURN, SPACE, QUOTE, ASTERISK, COMMA, SLASH, BACKSLASH, CLOSING_BRACKET, CLOSING_BRACE}
 use Rattle.json_view.specs.declared.plain.Place.{Place}
 use Rattle.json_view.specs.declared.plain.Place.TheVariants.{Outside, InString, Escaped, InLine, Opening, InBlock, Closing}
 use Rattle.json_view.specs.declared.plain.Part.{Part}
@@ -15,20 +15,20 @@ use Rattle.json_view.specs.declared.error.JsonErr.TheVariants.{NotJson, WrongKin
 
 -- two bytes begin a line comment, begin a block comment, end one
 abbrev pub opens_line : ℕ → ℕ → Bool
-opens_line b next = b == 47 && next == 47
+opens_line b next = b == SLASH && next == SLASH
 
 abbrev pub opens_block : ℕ → ℕ → Bool
-opens_block b next = b == 47 && next == 42
+opens_block b next = b == SLASH && next == ASTERISK
 
 abbrev pub ends_block : ℕ → ℕ → Bool
-ends_block b next = b == 42 && next == 47
+ends_block b next = b == ASTERISK && next == SLASH
 
--- where the byte behind b stands, if b stands at the place and `next` is that byte, 0 at the end
+-- where the byte behind b stands, if b stands at the place and `next` is that byte, NO_BYTE at the end
 unfoldable pub after : Place → ℕ → ℕ → Place
-after Outside b next = if opens_line b next then InLine else (if opens_block b next then Opening else (if b == 34 then InString else Outside))
-after InString b next = if b == 34 then Outside else (if b == 92 then Escaped else InString)
+after Outside b next = if opens_line b next then InLine else (if opens_block b next then Opening else (if b == QUOTE then InString else Outside))
+after InString b next = if b == QUOTE then Outside else (if b == BACKSLASH then Escaped else InString)
 after Escaped b next = InString
-after InLine b next = if b == 10 then Outside else InLine
+after InLine b next = if b == LINE_FEED then Outside else InLine
 after Opening b next = InBlock
 after InBlock b next = if ends_block b next then Closing else InBlock
 after Closing b next = Outside
@@ -43,7 +43,7 @@ part_of Opening b next = Comment
 part_of InBlock b next = Comment
 part_of Closing b next = Comment
 
--- the byte that a list begins with, 0 where it is empty
+-- the byte that a list begins with, NO_BYTE where it is empty
 abbrev pub first_byte : List ℕ → ℕ
 first_byte bytes = slice_index bytes 0
 
@@ -66,16 +66,16 @@ is_plain Plain = true
 
 -- JSON's white space
 abbrev pub is_white : ℕ → Bool
-is_white b = b == 32 || b == 9 || b == 10 || b == 13
+is_white b = b == SPACE || b == TAB || b == LINE_FEED || b == CARRIAGE_RETURN
 
 abbrev pub is_between : ℕ × Part → Bool
 is_between m = is_comment m.1 || (is_plain m.1 && is_white m.0)
 
 abbrev pub is_closer : ℕ × Part → Bool
-is_closer m = is_plain m.1 && (m.0 == 93 || m.0 == 125)
+is_closer m = is_plain m.1 && (m.0 == CLOSING_BRACKET || m.0 == CLOSING_BRACE)
 
 abbrev pub is_comma : ℕ × Part → Bool
-is_comma m = is_plain m.1 && m.0 == 44
+is_comma m = is_plain m.1 && m.0 == COMMA
 
 -- the first byte behind comments and white space closes an array or an object
 abbrev pub closes : List (ℕ × Part) → Bool
@@ -84,12 +84,12 @@ closes (m ∷ ms) = if is_between m then closes ms else is_closer m
 
 -- a byte of a comment but a newline is shown as a blank
 abbrev pub kept_or_blank : ℕ × Part → ℕ
-kept_or_blank m = if is_comment m.1 && not (m.0 == 10) then 32 else m.0
+kept_or_blank m = if is_comment m.1 && not (m.0 == LINE_FEED) then SPACE else m.0
 
 -- so is a comma with nothing but comments and white space between it and a closing bracket
 abbrev pub shown : List (ℕ × Part) → List ℕ
 shown [] = []
-shown (m ∷ ms) = (if is_comma m && closes ms then 32 else kept_or_blank m) ∷ shown ms
+shown (m ∷ ms) = (if is_comma m && closes ms then SPACE else kept_or_blank m) ∷ shown ms
 
 -- the text with blanks over comments and trailing commas
 unfoldable pub plain : List ℕ → List ℕ
@@ -123,7 +123,7 @@ open_comment bytes = open_from Outside 0 bytes
 
 -- each byte stays at its place or becomes a blank there
 abbrev pub KeepsPlaces : List ℕ → List ℕ → Type 0
-KeepsPlaces bytes text = (length text ≡ length bytes) × ((k : ℕ) → (slice_index text k ≡ slice_index bytes k) ⊎ (slice_index text k ≡ 32))
+KeepsPlaces bytes text = (length text ≡ length bytes) × ((k : ℕ) → (slice_index text k ≡ slice_index bytes k) ⊎ (slice_index text k ≡ SPACE))
 
 -- ---- the answer
 

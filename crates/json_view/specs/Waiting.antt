@@ -1,5 +1,6 @@
 -- A text in the making, with a comma that may turn out to be a trailing one.
 use Rattle.std.specs.Prelude.{◌≡◌, ◌<◌, ℕ, List, ◌∷◌, ◌+◌, ◌++◌, length, slice_set, Bool, true, false, Option, Some, None, ⊤}
+use Rattle.json_view.specs.declared.bytes.TheConstants.{SPACE}
 use Rattle.json_view.specs.declared.plain.Part.{Part}
 use Rattle.json_view.specs.Plain.{closes, shown}
 
@@ -12,7 +13,7 @@ IsWithin (Some at) text = at < length text
 abbrev pub settled : Bool → Option ℕ → List ℕ → List ℕ
 settled false waiting text = text
 settled true None text = text
-settled true (Some at) text = slice_set text at 32
+settled true (Some at) text = slice_set text at SPACE
 
 -- a byte was added: whatever comes behind it, the whole text is the same
 pub record Adds (m : ℕ × Part) (waiting : Option ℕ) (text : List ℕ) (now_waiting : Option ℕ) (now : List ℕ) : Type 0 where

@@ -3,7 +3,7 @@ ghost use Rattle.std.specs.Prelude.{◌≡◌};
 ghost use Rattle.json_view.specs.declared.error.JsonErr.TheVariants.{OutOfMemory};
 ghost use Rattle.json_view.specs.Shape.{word_of};
 
-use rel_path::{PathErr, Text};
+use rel_path::Text;
 use std::alloc::{AllocError, AllocFailed};
 
 /// What is wanted of a value.
@@ -64,15 +64,6 @@ impl<T: Drop> From<AllocFailed<T>> for JsonErr {
     ghost from_gives = { λ _ e. e ≡ OutOfMemory };
 
     fn from(_error: AllocFailed<T>) -> JsonErr {
-        JsonErr::OutOfMemory
-    }
-}
-
-// For calls whose only error is want of memory.
-impl From<PathErr> for JsonErr {
-    ghost from_gives = { λ _ e. e ≡ OutOfMemory };
-
-    fn from(_error: PathErr) -> JsonErr {
         JsonErr::OutOfMemory
     }
 }

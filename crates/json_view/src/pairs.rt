@@ -1,15 +1,14 @@
 // Objects of texts.
-ghost use Rattle.std.specs.Prelude.{◌≡◌, Some, None, IfOk, IfErr};
+ghost use Rattle.std.specs.Prelude.{◌≡◌, Some, None, IfOk, IsOkUnless};
 ghost use Rattle.serde_json.specs.View.{view, members_view};
-ghost use Rattle.json_view.specs.Answer.{IsMemory, IsWrong};
+ghost use Rattle.json_view.specs.Answer.{IsWrong};
 ghost use Rattle.json_view.specs.Pairs.{text_members, other_members, lesser, least_pointer, pairs_of, MayFail, AscendByName};
-ghost use Rattle.rel_path.specs.Memory.{OnlyMemory};
 
-use crate::look::wrong;
+use crate::look::wrong_kind;
 use crate::{JsonErr, Shape, pointer_to};
-use rel_path::{Pairs, PathErr, Text, Texts};
+use rel_path::{Pairs, Text, Texts};
 use serde_json::{Map, Value};
-use std::alloc::Global;
+use std::alloc::{AllocError, Global};
 
 /// The names and texts of an object of texts, ascending by name, where the object is what stands at the
 /// pointer. `WrongKind` comes for something else than an object, and at the least pointer to a member that
@@ -20,7 +19,7 @@ pub fn pairs_of(alloc: Global, pointer: &str, value: &Value) -> Result<Pairs, Js
     ensures ascending { IfOk result AscendByName }
 {
     let Some(members) = value.as_object() else {
-        return Err(wrong(alloc, pointer, Shape::Object));
+        return Err(wrong_kind(alloc, pointer, Shape::Object));
     };
     let others = other_members(alloc, members)?;
     match least_pointer(alloc, pointer, others.as_slice())? {
@@ -33,9 +32,8 @@ pub fn pairs_of(alloc: Global, pointer: &str, value: &Value) -> Result<Pairs, Js
 }
 
 // The names of the members that are no texts.
-fn other_members(alloc: Global, members: &Map<String, Value>) -> Result<Texts, PathErr>
+fn other_members(alloc: Global, members: &Map<String, Value>) -> Result<Texts, AllocError>
     ensures names { IfOk result (λ names. names ≡ other_members (members_view members.now.entries)) }
-    ensures memory { OnlyMemory result }
 {
     let mut names = Texts::new(alloc);
     for (name, value) in members.iter() {
@@ -47,10 +45,9 @@ fn other_members(alloc: Global, members: &Map<String, Value>) -> Result<Texts, P
 }
 
 // The members that are texts.
-fn text_members(alloc: Global, members: &Map<String, Value>) -> Result<Pairs, PathErr>
+fn text_members(alloc: Global, members: &Map<String, Value>) -> Result<Pairs, AllocError>
     ensures pairs { IfOk result (λ pairs. pairs ≡ text_members (members_view members.now.entries)) }
     ensures ascending { IfOk result AscendByName }
-    ensures memory { OnlyMemory result }
 {
     let mut pairs = Pairs::new(alloc);
     for (name, value) in members.iter() {
@@ -74,7 +71,7 @@ fn lesser(pointer: Text, other: Option<Text>) -> Text
 // The least of the pointers to members of these names.
 fn least_pointer(alloc: Global, pointer: &str, names: &[Text]) -> Result<Option<Text>, JsonErr>
     ensures least { IfOk result (λ least. least ≡ least_pointer pointer.now names.now) }
-    ensures memory { IfErr result IsMemory }
+    ensures memory { IsOkUnless result JsonErr.OutOfMemory }
 {
     let mut least = None;
     let mut rest = names;

@@ -1,10 +1,13 @@
 // JSON with comments and trailing commas.
-ghost use Rattle.std.specs.Prelude.{◌≡◌, ◌==◌, ◌||◌, IfOk, IfErr, slice_index, length};
+ghost use Rattle.std.specs.Prelude.{◌≡◌, ◌==◌, ◌||◌, IfOk, slice_index, length, IsOkUnless};
 ghost use Rattle.json_view.specs.Plain.{after, part_of, is_white, begins_block, is_between, is_closer, is_comma, kept_or_blank, AnswersPlain, KeepsPlaces};
 ghost use Rattle.json_view.specs.Waiting.{IsWithin, settled, Adds};
-ghost use Rattle.json_view.specs.Answer.{IsMemory};
 
 use crate::JsonErr;
+use crate::bytes::{
+    ASTERISK, BACKSLASH, CARRIAGE_RETURN, CLOSING_BRACE, CLOSING_BRACKET, COMMA, LINE_FEED,
+    NO_BYTE, QUOTE, SLASH, SPACE, TAB,
+};
 use rel_path::Bytes;
 use std::alloc::Global;
 
@@ -61,13 +64,13 @@ pub fn plain_json(alloc: Global, bytes: &[u8]) -> Result<Bytes, JsonErr>
     }
 }
 
-// The byte of that number, 0 behind the end.
+// The byte of that number, or none behind the end.
 fn byte_at(bytes: &[u8], i: usize) -> u8
     ensures { result ≡ slice_index bytes.now i }
 {
     match bytes.get(i) {
         Some(byte) => *byte,
-        None => 0,
+        None => NO_BYTE,
     }
 }
 
@@ -77,21 +80,21 @@ fn after(place: Place, byte: u8, next: u8) -> Place
 {
     match place {
         Place::Outside => match (byte, next) {
-            (b'/', b'/') => Place::InLine,
-            (b'/', b'*') => Place::Opening,
-            (b'"', _) => Place::InString,
+            (SLASH, SLASH) => Place::InLine,
+            (SLASH, ASTERISK) => Place::Opening,
+            (QUOTE, _) => Place::InString,
             _ => Place::Outside,
         },
         Place::InString => match byte {
-            b'"' => Place::Outside,
-            b'\\' => Place::Escaped,
+            QUOTE => Place::Outside,
+            BACKSLASH => Place::Escaped,
             _ => Place::InString,
         },
         Place::Escaped => Place::InString,
-        Place::InLine if byte == b'\n' => Place::Outside,
+        Place::InLine if byte == LINE_FEED => Place::Outside,
         Place::InLine => Place::InLine,
         Place::Opening => Place::InBlock,
-        Place::InBlock if byte == b'*' && next == b'/' => Place::Closing,
+        Place::InBlock if byte == ASTERISK && next == SLASH => Place::Closing,
         Place::InBlock => Place::InBlock,
         Place::Closing => Place::Outside,
     }
@@ -102,7 +105,7 @@ fn part_of(place: Place, byte: u8, next: u8) -> Part
     ensures { result ≡ part_of place byte next }
 {
     match place {
-        Place::Outside if byte == b'/' && (next == b'/' || next == b'*') => Part::Comment,
+        Place::Outside if byte == SLASH && (next == SLASH || next == ASTERISK) => Part::Comment,
         Place::Outside => Part::Plain,
         Place::InString | Place::Escaped => Part::Text,
         Place::InLine | Place::Opening | Place::InBlock | Place::Closing => Part::Comment,
@@ -114,7 +117,7 @@ fn begins_block(place: Place, byte: u8, next: u8) -> bool
     ensures { result ≡ begins_block place byte next }
 {
     match place {
-        Place::Outside => byte == b'/' && next == b'*',
+        Place::Outside => byte == SLASH && next == ASTERISK,
         _ => false,
     }
 }
@@ -129,7 +132,7 @@ fn add(
 ) -> Result<Option<usize>, JsonErr>
     requires { IsWithin waiting text.old.items }
     ensures added { IfOk result (λ now. Adds (byte, part) waiting text.old.items now text.new.items) }
-    ensures memory { IfErr result IsMemory }
+    ensures memory { IsOkUnless result JsonErr.OutOfMemory }
 {
     if is_between(byte, part) {
         text.push(kept_or_blank(byte, part))?;
@@ -152,7 +155,7 @@ fn settle(text: &mut Vec<u8>, waiting: Option<usize>, closes: bool)
 {
     if closes {
         if let Some(at) = waiting {
-            text[at] = b' ';
+            text[at] = SPACE;
         }
     }
 }
@@ -162,7 +165,7 @@ fn kept_or_blank(byte: u8, part: Part) -> u8
     ensures { result ≡ kept_or_blank (byte, part) }
 {
     match part {
-        Part::Comment if byte != b'\n' => b' ',
+        Part::Comment if byte != LINE_FEED => SPACE,
         _ => byte,
     }
 }
@@ -173,7 +176,7 @@ fn is_between(byte: u8, part: Part) -> bool
     match part {
         Part::Comment => true,
         Part::Text => false,
-        Part::Plain => matches!(byte, b' ' | b'\t' | b'\n' | b'\r'),
+        Part::Plain => matches!(byte, SPACE | TAB | LINE_FEED | CARRIAGE_RETURN),
     }
 }
 
@@ -181,7 +184,7 @@ fn is_closer(byte: u8, part: Part) -> bool
     ensures { result ≡ is_closer (byte, part) }
 {
     match part {
-        Part::Plain => byte == b']' || byte == b'}',
+        Part::Plain => byte == CLOSING_BRACKET || byte == CLOSING_BRACE,
         _ => false,
     }
 }
@@ -190,7 +193,7 @@ fn is_comma(byte: u8, part: Part) -> bool
     ensures { result ≡ is_comma (byte, part) }
 {
     match part {
-        Part::Plain => byte == b',',
+        Part::Plain => byte == COMMA,
         _ => false,
     }
 }

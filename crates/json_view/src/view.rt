@@ -11,7 +11,7 @@ ghost use Rattle.json_view.specs.Pointer.{AreNamesAt};
 ghost use Rattle.json_view.specs.Pairs.{pairs_in, MayFail, AscendByName};
 ghost use Rattle.json_view.specs.Answer.{data_of, Reads, Answers};
 
-use crate::look::{keys_of, texts_of, wrong};
+use crate::look::{keys_of, texts_of, wrong_kind};
 use crate::pairs::pairs_of;
 use crate::{JsonErr, Shape};
 use rel_path::{Pairs, Text, Texts};
@@ -55,7 +55,7 @@ impl View {
         match self.value.pointer(pointer) {
             None => Ok(None),
             Some(value) => match value.as_str() {
-                None => Err(wrong(alloc, pointer, Shape::Text)),
+                None => Err(wrong_kind(alloc, pointer, Shape::Text)),
                 Some(text) => Ok(Some(Text::read(alloc, text)?)),
             },
         }
@@ -69,9 +69,9 @@ impl View {
         match self.value.pointer(pointer) {
             None => Ok(None),
             Some(value) => match value.as_array() {
-                None => Err(wrong(alloc, pointer, Shape::Texts)),
+                None => Err(wrong_kind(alloc, pointer, Shape::Texts)),
                 Some(items) => match texts_of(alloc, items.as_slice())? {
-                    None => Err(wrong(alloc, pointer, Shape::Texts)),
+                    None => Err(wrong_kind(alloc, pointer, Shape::Texts)),
                     Some(texts) => Ok(Some(texts)),
                 },
             },
@@ -88,7 +88,7 @@ impl View {
         match self.value.pointer(pointer) {
             None => Ok(None),
             Some(value) => match value.as_bool() {
-                None => Err(wrong(alloc, pointer, Shape::Flag)),
+                None => Err(wrong_kind(alloc, pointer, Shape::Flag)),
                 Some(flag) => Ok(Some(flag)),
             },
         }
@@ -104,7 +104,7 @@ impl View {
         match self.value.pointer(pointer) {
             None => Ok(None),
             Some(value) => match value.as_u64() {
-                None => Err(wrong(alloc, pointer, Shape::Whole)),
+                None => Err(wrong_kind(alloc, pointer, Shape::Whole)),
                 Some(whole) => Ok(Some(whole)),
             },
         }
@@ -120,7 +120,7 @@ impl View {
         match self.value.pointer(pointer) {
             None => Ok(None),
             Some(value) => match value.as_object() {
-                None => Err(wrong(alloc, pointer, Shape::Object)),
+                None => Err(wrong_kind(alloc, pointer, Shape::Object)),
                 Some(members) => Ok(Some(keys_of(alloc, members)?)),
             },
         }

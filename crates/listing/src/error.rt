@@ -2,7 +2,6 @@
 ghost use Rattle.std.specs.Prelude.{◌≡◌};
 ghost use Rattle.listing.specs.declared.error.ListErr.TheVariants.{OutOfMemory};
 
-use rel_path::PathErr;
 use std::alloc::{AllocError, AllocFailed};
 use thiserror::Error;
 
@@ -25,15 +24,6 @@ impl<T: Drop> From<AllocFailed<T>> for ListErr {
     ghost from_gives = { λ _ e. e ≡ OutOfMemory };
 
     fn from(_error: AllocFailed<T>) -> ListErr {
-        ListErr::OutOfMemory
-    }
-}
-
-/// For calls of `rel_path` that fail for want of memory alone.
-impl From<PathErr> for ListErr {
-    ghost from_gives = { λ _ e. e ≡ OutOfMemory };
-
-    fn from(_error: PathErr) -> ListErr {
         ListErr::OutOfMemory
     }
 }

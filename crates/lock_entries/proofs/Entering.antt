@@ -1,11 +1,13 @@
 -- What is read of an entry and of the members of `packages`.
-use Rattle.std.proofs.Common.{◌≡◌, ◌⊎◌, ℕ, List, [], ◌∷◌, Option, Some, None, IsSome, Result, Err, refl, sym, ap, ◌∙◌, inl, inr, String, Global, string_bytes}
+use Rattle.std.proofs.Common.{◌≡◌, ◌⊎◌, ℕ, List, [], ◌∷◌, Option, Some, None, IsSome, Result, Ok, Err, refl, sym, ap, ◌∙◌, inl, inr, String, Global, string_bytes}
+use Rattle.std.specs.Result.{IsErrAnd}
 use Rattle.std.proofs.lemmas.Bool.{false≢true}
 use Rattle.serde_json.specs.View.{view, members_view}
 use Rattle.serde_json.specs.declared.value.Value.{Value}
 use Rattle.json_view.specs.declared.error.Shape.{Shape}
 use Rattle.json_view.specs.declared.error.JsonErr.{JsonErr}
 use Rattle.json_view.specs.declared.error.JsonErr.TheVariants.{WrongKind, OutOfMemory}
+use Rattle.json_view.specs.Pairs.{MayFail}
 use Rattle.lock_entries.specs.declared.parts.Wrong.{Wrong}
 use Rattle.lock_entries.specs.Entries.{then_by, or_wrong, entry_of, entries_of, wrongs_of, with_entry, with_wrong}
 use Rattle.lock_entries.specs.Least.{lesser_by, least_by}
@@ -19,6 +21,12 @@ checked at shape (Some a) r some = refl
 wrong_kind : {A : Type 0} (e : JsonErr) (at : List ℕ) (shape : Shape) (meant : Result A JsonErr) → e ≡ WrongKind at shape → (e ≡ OutOfMemory) ⊎ (meant ≡ Err e) → meant ≡ Err (WrongKind at shape)
 wrong_kind e at shape meant is (inl h) = absurd (cc)
 wrong_kind e at shape meant is (inr h) = h ∙ ap Err is
+
+-- an error that is passed on
+pub may_fail : {A : Type 0} (result : Result A JsonErr) (e : JsonErr) (meant : Result A JsonErr) → IsErrAnd result (λ now. now ≡ e) → (e ≡ OutOfMemory) ⊎ (meant ≡ Err e) → MayFail meant result
+may_fail (Ok a) e meant is h = absurd is
+may_fail (Err now) e meant is (inl m) = inl (is ∙ m)
+may_fail (Err now) e meant is (inr q) = inr (q ∙ ap Err (sym is))
 
 abbrev lesser : Option Wrong → Option Wrong → Option Wrong
 lesser = lesser_by (λ wrong. wrong.pointer)

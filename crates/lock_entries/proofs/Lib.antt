@@ -4,3 +4,4 @@ mod FloatSteps
 pub mod Ascending
 mod Entering
 pub mod Wrongs
+mod Pointless

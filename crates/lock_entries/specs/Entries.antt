@@ -1,5 +1,5 @@
 -- What an npm lockfile (npm docs, "package-lock.json", `packages`) says of each location: the names that it depends on, and where a link leads.
-use Rattle.std.specs.Prelude.{ℕ, List, [], ◌∷◌, ◌++◌, Bool, true, false, Option, Some, None, is_some, Result, Ok, Err, map, codes, option_and_then}
+use Rattle.std.specs.Prelude.{◌≡◌, ℕ, List, [], ◌∷◌, ◌++◌, Bool, true, false, Option, Some, None, is_some, Result, Ok, Err, map, codes, option_and_then}
 use Rattle.serde_json.specs.Data.{Data, Members, no_members, member}
 use Rattle.serde_json.specs.Find.{get, as_bool, as_str, as_object}
 use Rattle.json_view.specs.declared.error.Shape.{Shape}
@@ -12,6 +12,18 @@ use Rattle.lock_entries.specs.declared.entry.Name.{Name}
 use Rattle.lock_entries.specs.declared.entry.Entry.{Entry}
 use Rattle.lock_entries.specs.declared.parts.Wrong.{Wrong}
 use Rattle.lock_entries.specs.Least.{least_by}
+
+-- the pointer to the member of `packages` at a location
+abbrev pub entry_pointer : List ℕ → List ℕ
+entry_pointer location = pointer_to (codes "/packages") location
+
+-- the pointer to the member of an entry
+abbrev pub member_pointer : List ℕ → List ℕ → List ℕ
+member_pointer location key = pointer_to (entry_pointer location) key
+
+-- the value at a pointer is no object, and the error says so
+abbrev pub IsNoObject : List ℕ → Data → JsonErr → Type 0
+IsNoObject at d e = (as_object d ≡ None) × (e ≡ WrongKind at an_object)
 
 -- the first, and then what follows from it
 abbrev pub then_by : {A B : Type 0} → Result A JsonErr → (A → Result B JsonErr) → Result B JsonErr
@@ -81,9 +93,9 @@ entry_with location (Err e) = Err e
 abbrev pub entry_at : List ℕ → List ℕ → Data → Result Entry JsonErr
 entry_at at location d = entry_with location (parts_at at d)
 
--- what the member of `packages` at a location says
+-- what that member says
 unfoldable pub entry_of : List ℕ → Data → Result Entry JsonErr
-entry_of location d = entry_at (pointer_to (codes "/packages") location) location d
+entry_of location d = entry_at (entry_pointer location) location d
 
 abbrev pub with_entry : Result Entry JsonErr → List Entry → List Entry
 with_entry (Ok entry) entries = entry ∷ entries

@@ -11,11 +11,6 @@ as_refusal (wrong_kind pointer wanted) = WrongKind pointer wanted
 as_refusal (OpenComment at) = NotJson
 as_refusal json_memory = OutOfMemory
 
--- the first of two refusals
-abbrev pub or_then : Option LockErr → Option LockErr → Option LockErr
-or_then None later = later
-or_then (Some refusal) later = Some refusal
-
 -- an error is the refusal, or want of memory, which may come at any time
 abbrev pub MayRefuse : Option LockErr → LockErr → Type 0
 MayRefuse refusal e = (e ≡ OutOfMemory) ⊎ (refusal ≡ Some e)

@@ -1,9 +1,8 @@
 // What the lockfile says of one location.
-ghost use Rattle.std.specs.Prelude.{◌≡◌, ◌∷◌, ◌++◌, [], OnOk, OnErr};
-ghost use Rattle.rel_path.specs.Memory.{OnlyMemory};
+ghost use Rattle.std.specs.Prelude.{◌≡◌, ◌∷◌, ◌++◌, [], OnOk, OnErr, IsOkUnless};
 
-use rel_path::{PathErr, Text};
-use std::alloc::Global;
+use rel_path::Text;
+use std::alloc::{AllocError, Global};
 use std::marker::Model;
 
 /// A name that an entry depends on. It is soft where nothing needs to be found for it: an optional dependency, or a
@@ -40,10 +39,9 @@ impl Names {
     }
 
     /// Adds a name at the end. The list stays as it was where memory is wanting.
-    pub fn push(&mut self, name: Name) -> Result<(), PathErr>
+    pub fn push(&mut self, name: Name) -> Result<(), AllocError>
         ensures pushed { OnOk result (self.new ≡ self.old ++ name ∷ []) }
         ensures kept { OnErr result (self.new ≡ self.old) }
-        ensures memory { OnlyMemory result }
     {
         self.items.push(name)?;
         Ok(())

@@ -4,7 +4,7 @@ ghost use Rattle.lock_entries.specs.declared.error.LockErr.TheVariants.{OutOfMem
 ghost use Rattle.lock_entries.specs.Errors.{as_refusal};
 
 use json_view::{JsonErr, Shape};
-use rel_path::{PathErr, Text};
+use rel_path::Text;
 use std::alloc::{AllocError, AllocFailed};
 use thiserror::Error;
 
@@ -39,15 +39,6 @@ impl<T: Drop> From<AllocFailed<T>> for LockErr {
     ghost from_gives = { λ _ e. e ≡ OutOfMemory };
 
     fn from(_error: AllocFailed<T>) -> LockErr {
-        LockErr::OutOfMemory
-    }
-}
-
-// For calls whose only error is want of memory.
-impl From<PathErr> for LockErr {
-    ghost from_gives = { λ _ e. e ≡ OutOfMemory };
-
-    fn from(_error: PathErr) -> LockErr {
         LockErr::OutOfMemory
     }
 }

@@ -1,5 +1,5 @@
 // Numbers that no 64 bits hold: `serde_json` has them as floats.
-ghost use Rattle.std.specs.Prelude.{◌≡◌, ◌∷◌, [], IfOk, IfErr, Some, None, decimal, string_bytes};
+ghost use Rattle.std.specs.Prelude.{◌≡◌, ◌∷◌, [], IfOk, Some, None, decimal, string_bytes, IsOkUnless};
 ghost use Rattle.serde_json.specs.View.{view, items_view, members_view};
 ghost use Rattle.serde_json.specs.Written.{has_float, items_have_float, members_have_float};
 ghost use Rattle.lock_entries.specs.Least.{lesser_by, least_by};
@@ -16,7 +16,7 @@ use std::alloc::{AllocError, Global};
 #[tactic(auto, unfolding(crate::specs::Floats::least_float))]
 pub(crate) fn least_float(alloc: Global, value: &Value) -> Result<Option<Text>, LockErr>
     ensures least { IfOk result (λ least. least ≡ least_float (view value.now)) }
-    ensures memory { IfErr result (λ e. e ≡ OutOfMemory) }
+    ensures memory { IsOkUnless result OutOfMemory }
 {
     least_at(alloc, "", value)
 }
@@ -81,8 +81,9 @@ fn number_text(alloc: Global, number: usize) -> Result<String, AllocError>
 // The least pointer to a float in a value that stands at the pointer.
 #[cycle(least_at)]
 fn least_at(alloc: Global, at: &str, value: &Value) -> Result<Option<Text>, LockErr>
-    ensures least { IfOk result (λ least. least ≡ least_by (λ pointer. pointer) (floats at.now (view value.now))) }
-    ensures memory { IfErr result (λ e. e ≡ OutOfMemory) }
+    ensures least { IfOk result (λ least.
+        least ≡ least_by (λ pointer. pointer) (floats at.now (view value.now))) }
+    ensures memory { IsOkUnless result OutOfMemory }
 {
     match value {
         Value::Null => Ok(None),
@@ -102,8 +103,9 @@ fn least_at(alloc: Global, at: &str, value: &Value) -> Result<Option<Text>, Lock
 
 #[cycle(least_at)]
 fn least_of_items(alloc: Global, at: &str, items: &Vec<Value>) -> Result<Option<Text>, LockErr>
-    ensures least { IfOk result (λ least. least ≡ least_by (λ pointer. pointer) (item_floats at.now 0 (items_view items.now.items))) }
-    ensures memory { IfErr result (λ e. e ≡ OutOfMemory) }
+    ensures least { IfOk result (λ least.
+        least ≡ least_by (λ pointer. pointer) (item_floats at.now 0 (items_view items.now.items))) }
+    ensures memory { IsOkUnless result OutOfMemory }
 {
     let mut least = None;
     for (i, item) in items.iter().enumerate() {
@@ -123,8 +125,10 @@ fn least_of_members(
     at: &str,
     members: &Map<String, Value>,
 ) -> Result<Option<Text>, LockErr>
-    ensures least { IfOk result (λ least. least ≡ least_by (λ pointer. pointer) (member_floats at.now (members_view members.now.entries))) }
-    ensures memory { IfErr result (λ e. e ≡ OutOfMemory) }
+    ensures least { IfOk result (λ least.
+        least ≡ least_by (λ pointer. pointer)
+        (member_floats at.now (members_view members.now.entries))) }
+    ensures memory { IsOkUnless result OutOfMemory }
 {
     let mut least = None;
     for (name, member) in members.iter() {

@@ -12,19 +12,18 @@ ghost use Rattle.lock_entries.specs.declared.error.LockErr.TheVariants.{WrongKin
 use crate::floats::least_float;
 use crate::parts::{Wrong, entry_of};
 use crate::{Entry, LockErr};
-use json_view::{JsonErr, Shape};
-use rel_path::Text;
+use json_view::{JsonErr, Shape, wrong_kind};
 use serde_json::{Map, Value};
 use std::alloc::Global;
+
+// The `lockfileVersion` that is read.
+const LOCKFILE_VERSION: i128 = 3;
 
 // The error for a wrong kind at the pointer, or for want of memory.
 fn wrong(alloc: Global, pointer: &str, wanted: Shape) -> LockErr
     ensures { MayRefuse (Some (WrongKind pointer.now wanted)) result }
 {
-    match Text::read(alloc, pointer) {
-        Ok(pointer) => LockErr::WrongKind { pointer, wanted },
-        Err(_) => LockErr::OutOfMemory,
-    }
+    LockErr::from(wrong_kind(alloc, pointer, wanted))
 }
 
 fn check_top(alloc: Global, value: &Value) -> Result<(), LockErr>
@@ -52,7 +51,7 @@ fn check_version(alloc: Global, value: &Value) -> Result<(), LockErr>
     match value.get("lockfileVersion").and_then(as_whole) {
         None => Err(wrong(alloc, "/lockfileVersion", Shape::Whole)),
         Some(n) => {
-            if n == 3 {
+            if n == LOCKFILE_VERSION {
                 Ok(())
             } else {
                 Err(LockErr::Version { n })
@@ -118,7 +117,8 @@ fn entries_of(alloc: Global, packages: &Map<String, Value>) -> Result<Vec<Entry>
 
 #[tactic(auto, unfolding(crate::specs::Lockfile::packages_refusal))]
 fn entries_under(alloc: Global, value: &Value) -> Result<Vec<Entry>, LockErr>
-    ensures entries { Accepts (packages_refusal (view value.now)) (λ entries. entries.items ≡ entries_in (view value.now)) result }
+    ensures entries { Accepts (packages_refusal (view value.now))
+        (λ entries. entries.items ≡ entries_in (view value.now)) result }
     ensures ascend { IfOk result (λ entries. Ascend entries.items) }
 {
     match packages_of(value) {
@@ -134,7 +134,8 @@ fn entries_under(alloc: Global, value: &Value) -> Result<Vec<Entry>, LockErr>
 /// `optionalDependencies` and `peerDependencies` objects of texts, and where `link` is true, `resolved` is a text.
 /// 2^32 entries or more are refused for want of memory.
 pub fn read_entries(alloc: Global, value: &Value) -> Result<Vec<Entry>, LockErr>
-    ensures entries { Accepts (lock_refusal (view value.now)) (λ entries. entries.items ≡ entries_in (view value.now)) result }
+    ensures entries { Accepts (lock_refusal (view value.now))
+        (λ entries. entries.items ≡ entries_in (view value.now)) result }
     ensures ascend { IfOk result (λ entries. Ascend entries.items) }
     ensures few { IfOk result (λ entries. length entries.items < 2 ^ 32) }
 {

@@ -7,19 +7,20 @@ use Rattle.std.specs.Ordering.{is_gt, ordering_then}
 use Rattle.std.specs.Cmp.{nat_cmp_is}
 use Rattle.std.proofs.lemmas.Bool.{false≢true}
 use Rattle.std.proofs.lemmas.Bool.Decides.{nat_tests}
+use Rattle.std.specs.Option.{option_or}
 use Rattle.json_view.specs.declared.error.Shape.{Shape}
 use Rattle.json_view.specs.declared.error.JsonErr.{JsonErr}
 use Rattle.rel_path.specs.Paths.{name_cmp}
 use Rattle.manifest.specs.declared.error.ManifestErr.{ManifestErr}
-use Rattle.manifest.specs.Faults.{Wrong, wrong_of, lesser, least, wrong_kind, or_then}
+use Rattle.manifest.specs.Faults.{Wrong, wrong_of, lesser, least, wrong_kind}
 use Rattle.manifest.specs.Steps.{MayFault, first_wrong}
 
 -- a part that reads leaves the fault to those behind it
-pub passes : {A : Type 0} (part : Result A JsonErr) (a : A) (later : Option ManifestErr) (e : ManifestErr) → part ≡ Ok a → MayFault later e → MayFault (or_then (wrong_kind (wrong_of part)) later) e
+pub passes : {A : Type 0} (part : Result A JsonErr) (a : A) (later : Option ManifestErr) (e : ManifestErr) → part ≡ Ok a → MayFault later e → MayFault (option_or (wrong_kind (wrong_of part)) later) e
 passes part a later e reads fault = rw reads fault
 
 -- a part that does not is the fault
-pub stops : (wrong : Option ManifestErr) (later : Option ManifestErr) (e : ManifestErr) → MayFault wrong e → MayFault (or_then wrong later) e
+pub stops : (wrong : Option ManifestErr) (later : Option ManifestErr) (e : ManifestErr) → MayFault wrong e → MayFault (option_or wrong later) e
 stops wrong later e (inl memory) = inl memory
 stops wrong later e (inr is) = inr (rw is refl)
 

@@ -3,6 +3,7 @@ use Rattle.std.proofs.Common.{◌≡◌, ℕ, Bool, true, false, cond, List, [],
 use Rattle.std.specs.Prelude.{Option, Some, None, Result, Ok, Err, ⊤, codes}
 use Rattle.std.specs.Ordering.{is_gt, nat_cmp}
 use Rattle.std.specs.Cmp.Lexicographic.{slice_cmp}
+use Rattle.std.specs.Option.{option_or}
 use Rattle.serde_json.specs.Data.{Data, Members}
 use Rattle.serde_json.specs.Find.{as_object, pointer}
 use Rattle.json_view.specs.declared.error.Shape.TheVariants.{Texts as some_texts, Object as an_object}
@@ -12,7 +13,7 @@ use Rattle.json_view.specs.Look.{Look, Nothing, Here, Else, text_in, texts_in}
 use Rattle.json_view.specs.Pointer.{pointer_to}
 use Rattle.json_view.specs.Pairs.{lesser, least_pointer, unless_other, pairs_if, pairs_of, some_of, if_there, pairs_in, text_members, other_members}
 use Rattle.manifest.specs.Parts.{text_of, text_part, or_no_pairs, map_part, manager_part, packages_of, workspaces_of, workspaces_part, is_object_at}
-use Rattle.manifest.specs.Faults.{Wrong, wrong_of, least, wrong_kind, top_wrong, wrongs, or_then}
+use Rattle.manifest.specs.Faults.{Wrong, wrong_of, least, wrong_kind, top_wrong, wrongs}
 use Rattle.manifest.specs.declared.error.ManifestErr.{ManifestErr}
 use Rattle.manifest.specs.Steps.{MayFault, first_wrong}
 use Rattle.manifest.proofs.Chain.{Under, AllUnder, ascend, least_is_first, top_is_first}
@@ -157,5 +158,5 @@ first_is_least is_root d = by (is_object_at [] d) where
   by false = ap wrong_kind (top_is_first an_object (least (parts_wrong is_root d)))
 
 -- an object at the top leaves the fault to the parts
-pub past_top : (d : Data) (later : Option ManifestErr) (e : ManifestErr) → is_object_at [] d ≡ true → MayFault later e → MayFault (or_then (wrong_kind (top_wrong d)) later) e
+pub past_top : (d : Data) (later : Option ManifestErr) (e : ManifestErr) → is_object_at [] d ≡ true → MayFault later e → MayFault (option_or (wrong_kind (top_wrong d)) later) e
 past_top d later e is fault = rw is fault

@@ -1,6 +1,7 @@
 -- A manifest as it is meant, by what was found of it.
 use Rattle.std.proofs.Common.{◌≡◌, ◌⊎◌, inl, inr, ℕ, List, Bool, refl, ap, ◌∙◌}
 use Rattle.std.specs.Prelude.{Option, Some, None, Result, Ok, Err}
+use Rattle.std.specs.Option.{option_or}
 use Rattle.serde_json.specs.Data.{Data}
 use Rattle.json_view.specs.declared.error.JsonErr.{JsonErr}
 use Rattle.json_view.specs.declared.error.JsonErr.TheVariants as json
@@ -10,7 +11,7 @@ use Rattle.manifest.specs.declared.manifest.Manifest.{Manifest}
 use Rattle.manifest.specs.declared.error.ManifestErr.{ManifestErr}
 use Rattle.manifest.specs.declared.error.ManifestErr.TheVariants.{OutOfMemory}
 use Rattle.manifest.specs.Parts.{manager_part}
-use Rattle.manifest.specs.Faults.{wrongs, or_then, given_fault, last_fault, manifest_fault}
+use Rattle.manifest.specs.Faults.{wrongs, given_fault, last_fault, manifest_fault}
 use Rattle.manifest.specs.Manifest.{parts_in, unless, manifest_of}
 use Rattle.manifest.specs.Steps.{as_fault, MayFault, first_wrong}
 use Rattle.manifest.proofs.Keys.{first_is_least}
@@ -27,9 +28,9 @@ no_view is_root bytes (json.OpenComment at) reads = absurd reads
 no_view is_root bytes json.OutOfMemory reads = inl refl
 
 -- what is meant by a text, by its first fault
-meant_by : (is_root : Bool) (bytes : List ℕ) (d : Data) → reading bytes ≡ Some d → manifest_of is_root bytes ≡ unless (or_then (first_wrong (wrongs is_root d)) (last_fault is_root d)) (parts_in d)
+meant_by : (is_root : Bool) (bytes : List ℕ) (d : Data) → reading bytes ≡ Some d → manifest_of is_root bytes ≡ unless (option_or (first_wrong (wrongs is_root d)) (last_fault is_root d)) (parts_in d)
 unfolding manifest_of manifest_fault
-meant_by is_root bytes d reads = rw reads (ap (λ wrong. unless (or_then wrong (last_fault is_root d)) (parts_in d)) (first_is_least is_root d))
+meant_by is_root bytes d reads = rw reads (ap (λ wrong. unless (option_or wrong (last_fault is_root d)) (parts_in d)) (first_is_least is_root d))
 
 pub wrong_part : (is_root : Bool) (bytes : List ℕ) (d : Data) (e : ManifestErr) → reading bytes ≡ Some d → MayFault (first_wrong (wrongs is_root d)) e → MayRefuse (manifest_of is_root bytes) e
 wrong_part is_root bytes d e reads (inl memory) = inl memory

@@ -1,6 +1,7 @@
 -- Why a value is no package.json: parts of the wrong kind, a name that no package may have, another package manager.
 use Rattle.std.specs.Prelude.{ℕ, ◌==◌, ◌&&◌, Bool, true, false, not, if◌then◌else◌, List, [], ◌∷◌, length, Option, Some, None, Result, Ok, Err, nat_eq, bytes_eq, codes}
 use Rattle.std.specs.List.{list_any, starts_with}
+use Rattle.std.specs.Option.{option_or}
 use Rattle.std.specs.Ordering.{is_gt}
 use Rattle.serde_json.specs.Data.{Data}
 use Rattle.json_view.specs.declared.error.Shape.{Shape}
@@ -9,6 +10,7 @@ use Rattle.json_view.specs.declared.error.JsonErr.{JsonErr}
 use Rattle.json_view.specs.declared.error.JsonErr.TheVariants as json
 use Rattle.rel_path.specs.Paths.{name_cmp}
 use Rattle.manifest.specs.Parts.{text_part, map_part, manager_part, workspaces_part, is_object_at}
+use Rattle.manifest.specs.declared.manifest.TheConstants.{HASH}
 use Rattle.manifest.specs.declared.error.ManifestErr.{ManifestErr}
 use Rattle.manifest.specs.declared.error.ManifestErr.TheVariants.{NoName, WrongKind, OtherManager}
 
@@ -59,7 +61,7 @@ wrongs is_root d =
 
 -- a name that a package may have: not empty, not `//`, without `#`
 abbrev pub is_package_name : List ℕ → Bool
-is_package_name name = not (length name == 0) && (not (bytes_eq name (codes "//")) && not (list_any (λ b. b == 35) name))
+is_package_name name = not (length name == 0) && (not (bytes_eq name (codes "//")) && not (list_any (λ b. b == HASH) name))
 
 abbrev pub name_fault : Option (List ℕ) → Option ManifestErr
 name_fault None = Some NoName
@@ -81,11 +83,6 @@ abbrev pub wrong_kind : Option Wrong → Option ManifestErr
 wrong_kind None = None
 wrong_kind (Some wrong) = Some (WrongKind wrong.0 wrong.1)
 
--- the first of two faults
-abbrev pub or_then : Option ManifestErr → Option ManifestErr → Option ManifestErr
-or_then None later = later
-or_then (Some fault) later = Some fault
-
 -- a package needs a name; the root needs none, and may name its package manager
 abbrev pub given_fault : Bool → Option (List ℕ) → Option (List ℕ) → Option ManifestErr
 given_fault true name manager = manager_fault manager
@@ -96,4 +93,4 @@ last_fault is_root d = given_fault is_root (text_or_none (text_part (codes "/nam
 
 -- why a value is no manifest: the part of the wrong kind with the least pointer comes before all else
 unfoldable pub manifest_fault : Bool → Data → Option ManifestErr
-manifest_fault is_root d = or_then (wrong_kind (least (wrongs is_root d))) (last_fault is_root d)
+manifest_fault is_root d = option_or (wrong_kind (least (wrongs is_root d))) (last_fault is_root d)

@@ -1,5 +1,6 @@
 -- What the calls behind a reading of a manifest answer, part by part.
 use Rattle.std.specs.Prelude.{ℕ, ◌≡◌, ◌⊎◌, Bool, List, [], ◌∷◌, Option, Some, None, Result, Ok, MatchResult}
+use Rattle.std.specs.Option.{option_or}
 use Rattle.serde_json.specs.Data.{Data}
 use Rattle.json_view.specs.declared.error.JsonErr.{JsonErr}
 use Rattle.json_view.specs.declared.error.JsonErr.TheVariants as json
@@ -7,7 +8,7 @@ use Rattle.manifest.specs.declared.manifest.Manifest.{Manifest}
 use Rattle.manifest.specs.declared.error.ManifestErr.{ManifestErr}
 use Rattle.manifest.specs.declared.error.ManifestErr.TheVariants.{NotJson, WrongKind, OutOfMemory}
 use Rattle.manifest.specs.Parts.{manager_part}
-use Rattle.manifest.specs.Faults.{Wrong, wrong_of, wrong_kind, wrongs, or_then}
+use Rattle.manifest.specs.Faults.{Wrong, wrong_of, wrong_kind, wrongs}
 use Rattle.manifest.specs.Manifest.{parts_in}
 
 -- an error of the crate below as one of this crate; over a text that was read the middle two never come
@@ -28,7 +29,7 @@ Finds part result = MatchResult result (λ a. part ≡ Ok a) (MayFault (wrong_ki
 -- the fault of the first part that is wrong
 abbrev pub first_wrong : List (Option Wrong) → Option ManifestErr
 first_wrong [] = None
-first_wrong (w ∷ ws) = or_then (wrong_kind w) (first_wrong ws)
+first_wrong (w ∷ ws) = option_or (wrong_kind w) (first_wrong ws)
 
 -- no part is wrong, and this is what they hold; or the first that is wrong
 abbrev pub FindsAll : Bool → Data → Result (Manifest × Option (List ℕ)) ManifestErr → Type 0

@@ -4,7 +4,8 @@ ghost use Rattle.manifest.specs.declared.error.ManifestErr.TheVariants.{OutOfMem
 ghost use Rattle.manifest.specs.Steps.{as_fault};
 
 use json_view::{JsonErr, Shape};
-use rel_path::{PathErr, Text};
+use rel_path::Text;
+use std::alloc::AllocError;
 use thiserror::Error;
 
 /// Why bytes are no manifest. Memory may be wanting at any call that takes some.
@@ -26,11 +27,10 @@ pub enum ManifestErr {
     OutOfMemory,
 }
 
-// For calls whose only error is want of memory.
-impl From<PathErr> for ManifestErr {
+impl From<AllocError> for ManifestErr {
     ghost from_gives = { λ _ e. e ≡ OutOfMemory };
 
-    fn from(_error: PathErr) -> ManifestErr {
+    fn from(_error: AllocError) -> ManifestErr {
         ManifestErr::OutOfMemory
     }
 }

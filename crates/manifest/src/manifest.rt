@@ -3,6 +3,7 @@ ghost use Rattle.std.specs.Prelude.{◌≡◌, ◌==◌, ◌&&◌, IfOk, MatchRe
 ghost use Rattle.std.specs.List.{list_any, starts_with};
 ghost use Rattle.json_view.specs.Answer.{data_of};
 ghost use Rattle.manifest.specs.Faults.{is_package_name, name_fault, manager_fault, given_fault};
+ghost use Rattle.manifest.specs.declared.manifest.TheConstants.{HASH};
 ghost use Rattle.manifest.specs.Manifest.{manifest_of, AreAscending, Reads};
 ghost use Rattle.manifest.specs.Steps.{FindsAll, MayFault};
 
@@ -11,6 +12,9 @@ use crate::parts::{is_object_at, manager_at, map_at, text_at, workspaces_at, wro
 use json_view::{Shape, View};
 use rel_path::{Pairs, Text, Texts};
 use std::alloc::Global;
+
+// What parts a package's name from a task's in `package#task`.
+const HASH: u8 = b'#';
 
 /// What a task runner reads of a `package.json`. A map or list that is missing is empty.
 #[derive(Debug, Drop)]
@@ -87,9 +91,9 @@ fn parts_at(alloc: Global, view: &View, root: bool) -> Result<(Manifest, Option<
 }
 
 fn has_hash(name: &[u8]) -> bool
-    ensures { result ≡ list_any (λ b. b == 35) name.now }
+    ensures { result ≡ list_any (λ b. b == HASH) name.now }
 {
-    name.iter().any(|b| *b == b'#')
+    name.iter().any(|b| *b == HASH)
 }
 
 fn is_package_name(name: &str) -> bool

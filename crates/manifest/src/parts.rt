@@ -7,7 +7,7 @@ ghost use Rattle.manifest.specs.Parts.{text_part, map_part, manager_part, packag
 ghost use Rattle.manifest.specs.Steps.{Finds, MayFault};
 
 use crate::ManifestErr;
-use json_view::{JsonErr, Shape, View};
+use json_view::{JsonErr, Shape, View, wrong_kind};
 use rel_path::{Pairs, Text, Texts};
 use std::alloc::Global;
 
@@ -65,10 +65,7 @@ pub(crate) fn is_object_at(view: &View, pointer: &str) -> bool
 pub(crate) fn wrong(alloc: Global, pointer: &str, wanted: Shape) -> ManifestErr
     ensures { MayFault (Some (ManifestErr.WrongKind pointer.now wanted)) result }
 {
-    match Text::read(alloc, pointer) {
-        Ok(pointer) => ManifestErr::WrongKind { pointer, wanted },
-        Err(_) => ManifestErr::OutOfMemory,
-    }
+    ManifestErr::from(wrong_kind(alloc, pointer, wanted))
 }
 
 // The array `packages` of an object `workspaces`.

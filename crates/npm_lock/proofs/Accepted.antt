@@ -12,7 +12,7 @@ use Rattle.lock_entries.specs.declared.entry.Entry.{Entry}
 use Rattle.lock_entries.specs.declared.error.LockErr.{LockErr}
 use Rattle.lock_entries.specs.declared.error.LockErr.TheVariants.{Number}
 use Rattle.lock_entries.specs.Entries.{entry_of, entries_of, with_entry}
-use Rattle.lock_entries.specs.Errors.{or_then}
+use Rattle.std.specs.Option.{option_or}
 use Rattle.lock_entries.specs.Floats.{floats, least_float}
 use Rattle.lock_entries.specs.Least.{least_by, lesser_by}
 use Rattle.lock_entries.specs.Lockfile.{lock_refusal, top_refusal, version_refusal, number_refusal, packages_refusal, packages_if, packages_of, packages_in, or_no_members, entries_in}
@@ -20,7 +20,7 @@ use Rattle.lock_entries.proofs.NoFloats.{without_floats}
 use Rattle.lock_entries.proofs.Ascending.{entry_of-location}
 use Rattle.npm_lock.specs.Sets.{Has}
 
-both_none : (a b : Option LockErr) → or_then a b ≡ None → (a ≡ None) × (b ≡ None)
+both_none : (a b : Option LockErr) → option_or a b ≡ None → (a ≡ None) × (b ≡ None)
 both_none None b e = (refl, e)
 both_none (Some x) b e = absurd (cc)
 

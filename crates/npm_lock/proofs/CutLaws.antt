@@ -12,7 +12,7 @@ use Rattle.std.proofs.lemmas.Map.Text.{is_eq-slice_cmp}
 use Rattle.lock_entries.specs.declared.error.LockErr.{LockErr}
 use Rattle.lock_entries.specs.declared.error.LockErr.TheVariants.{Number}
 use Rattle.lock_entries.specs.Entries.{wrongs_of, least_wrong}
-use Rattle.lock_entries.specs.Errors.{or_then}
+use Rattle.std.specs.Option.{option_or}
 use Rattle.lock_entries.specs.Floats.{least_float}
 use Rattle.lock_entries.specs.Least.{least_by}
 use Rattle.lock_entries.specs.Lockfile.{lock_refusal, top_refusal, version_refusal, version_if, as_whole, number_refusal, packages_refusal, packages_if, packages_of, wrong_of}
@@ -113,7 +113,7 @@ top_some (Some ms) e = (ms, refl)
 pub accepted_object : (d : Data) → lock_refusal d ≡ None → (ms : Members) × (d ≡ object ms)
 accepted_object d e = let ms = top_some (as_object d) (accepted d e).top in (ms.0, object_of d ms.0 ms.1)
 
-four_none : (a b c x : Option LockErr) → a ≡ None → b ≡ None → c ≡ None → x ≡ None → or_then a (or_then b (or_then c x)) ≡ None
+four_none : (a b c x : Option LockErr) → a ≡ None → b ≡ None → c ≡ None → x ≡ None → option_or a (option_or b (option_or c x)) ≡ None
 four_none a b c x p q r s = rw (p, q, r, s) refl
 
 option_same : {A : Type 0} (o : Option A) → option_map (λ a. a) o ≡ o

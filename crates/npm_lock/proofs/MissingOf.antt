@@ -1,5 +1,5 @@
 -- What is missing is what the loops over starts and members gather.
-use Rattle.std.proofs.Common.{◌≡◌, ◌⊎◌, inl, inr, ⊎_elim, ℕ, Bool, true, false, cond, ◌&&◌, List, [], ◌∷◌, ◌++◌, Option, Some, None, is_none, refl, sym, ap, ◌∙◌, subst, Result, Ok, Err, IfOk, IfErr}
+use Rattle.std.proofs.Common.{◌≡◌, ◌⊎◌, inl, inr, ⊎_elim, ℕ, Bool, true, false, cond, ◌&&◌, List, [], ◌∷◌, ◌++◌, Option, Some, None, is_none, refl, sym, ap, ◌∙◌, subst}
 use Rattle.std.proofs.lemmas.Bool.{false≢true}
 use Rattle.lock_entries.specs.declared.entry.Name.{Name}
 use Rattle.lock_entries.specs.declared.entry.Entry.{Entry}
@@ -9,11 +9,7 @@ use Rattle.npm_lock.specs.Sets.{Has}
 use Rattle.npm_lock.specs.Lookup.{found_number}
 use Rattle.npm_lock.specs.Finds.{root_of}
 use Rattle.npm_lock.specs.Lacks.{least_after, with_lack, is_lacking, start_lacks, name_lacks, member_lacks}
-use Rattle.npm_lock.specs.Externals.{lookup_of, LooksUp, IsExternals, IsMissing, lack_of, IsLeastMissing, members_in, Externals}
-use Rattle.npm_lock.specs.declared.error.ExtErr.{ExtErr}
-use Rattle.npm_lock.specs.declared.error.ExtErr.TheVariants.{Missing, OutOfMemory}
-use Rattle.serde_json.specs.Data.{Data}
-use Rattle.lock_entries.specs.Lockfile.{entries_in}
+use Rattle.npm_lock.specs.Externals.{lookup_of, LooksUp, IsMissing, lack_of, IsLeastMissing}
 use Rattle.npm_lock.proofs.Lacking.{after-append, least_is, none_is}
 use Rattle.npm_lock.proofs.Locating.{found_none, number_none}
 use Rattle.npm_lock.proofs.Reaching.{has_left, has_right, has_append}
@@ -114,11 +110,3 @@ module _ (es : List Entry) where
           let l = least_is all None (record { from = from; name = name }) (after-append (start_lacks es starts) (member_lacks es set es) None ∙ e) in
           let s = ⊎_elim (λ h. lacks_missing _ h) (λ z. absurd (cc)) l.which in
           record { start = s.0; missing = s.1; same = s.2; least = λ t m. rw s.2 (l.each (lack_of t) (missing_lacks t m)) }
-
--- the members are answered where nothing is missing
-pub members_answered : (d : Data) (starts : List Start) (set : List ℕ → Bool) (result : Result (List (List ℕ × List ℕ)) ExtErr)
-    → IsExternals (entries_in d) starts set → ((s : Start) → ¬ IsMissing (entries_in d) starts set s)
-    → IfOk result (λ pairs. pairs ≡ members_in d set) → IfErr result (λ e. e ≡ OutOfMemory) → Externals d starts result
-members_answered d starts set (Ok pairs) is none ok err = (set, is, none, ok)
-members_answered d starts set (Err (Missing from name)) is none ok err = absurd (cc)
-members_answered d starts set (Err OutOfMemory) is none ok err = tt

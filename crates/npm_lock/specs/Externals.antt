@@ -64,6 +64,10 @@ pub record IsLeastMissing (entries : List Entry) (starts : List Start) (set : Li
 unfoldable pub text_in : Option Data → List ℕ → List ℕ
 text_in packages location = unwrap_or (option_map compact_text (option_and_then (get location) packages)) []
 
+-- the entries, each so written
+abbrev pub texts_in : Option Data → List Entry → List (List ℕ)
+texts_in packages entries = map (λ e. text_in packages e.location) entries
+
 abbrev pub entry_text : Data → List ℕ → List ℕ
 entry_text d location = text_in (get (codes "packages") d) location
 

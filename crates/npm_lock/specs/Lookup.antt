@@ -1,10 +1,11 @@
 -- Where npm looks for a package (Node.js docs, "Loading from node_modules folders"), and what it finds among the locations of a lockfile.
 use Rattle.std.specs.Prelude.{ℕ, zero, suc, ◌==◌, ◌||◌, List, [], ◌∷◌, ◌++◌, length, take, slice_index, map, filter, Bool, not, Option, Some, None, is_some, option_and_then, if◌then◌else◌, bytes_eq, codes}
-use Rattle.std.specs.Option.{option_map}
+use Rattle.std.specs.Option.{option_map, option_or}
 use Rattle.std.specs.List.{ends_with}
 use Rattle.std.specs.Prelude.{nat_eq}
 use Rattle.rel_path.specs.Paths.{name_eq}
 use Rattle.lock_entries.specs.declared.entry.Entry.{Entry}
+use Rattle.npm_lock.specs.declared.lookup.TheConstants.{SLASH}
 
 -- where a folder holds the package of this name
 abbrev pub place_in : List ℕ → List ℕ → List ℕ
@@ -18,7 +19,7 @@ is_modules folder = bytes_eq folder (codes "node_modules") || ends_with nat_eq f
 -- the folders above that end at a slash before the byte n, the nearest first, and then the root
 abbrev pub above : List ℕ → ℕ → List (List ℕ)
 above from zero = [] ∷ []
-above from (suc n) = if slice_index from n == 47 then take n from ∷ above from n else above from n
+above from (suc n) = if slice_index from n == SLASH then take n from ∷ above from n else above from n
 
 abbrev pub above_without_modules : List ℕ → ℕ → List (List ℕ)
 above_without_modules from n = filter (λ folder. not (is_modules folder)) (above from n)
@@ -53,11 +54,7 @@ found entries from name = first (has entries) (places from name)
 unfoldable pub found_number : List Entry → List ℕ → List ℕ → Option ℕ
 found_number entries from name = option_and_then (number_of entries) (found entries from name)
 
-abbrev pub or_later : Option ℕ → Option ℕ → Option ℕ
-or_later None later = later
-or_later (Some number) later = Some number
-
 -- the number of the first place that the lockfile has
 abbrev pub first_number : List Entry → List (List ℕ) → Option ℕ
 first_number entries [] = None
-first_number entries (place ∷ others) = or_later (number_of entries place) (first_number entries others)
+first_number entries (place ∷ others) = option_or (number_of entries place) (first_number entries others)

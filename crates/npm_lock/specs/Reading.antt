@@ -10,6 +10,7 @@ use Rattle.lock_entries.specs.declared.error.LockErr.{LockErr}
 use Rattle.lock_entries.specs.declared.error.LockErr.TheVariants.{NotJson, OutOfMemory}
 use Rattle.lock_entries.specs.Lockfile.{lock_refusal}
 use Rattle.npm_lock.specs.declared.lock.Lock.{Lock}
+use Rattle.npm_lock.specs.declared.lock.TheConstants.{LINE_FEED}
 
 abbrev pub unless : Data → Option LockErr → Result Data LockErr
 unless d None = Ok d
@@ -30,6 +31,6 @@ Reads meant result = MatchResult result (λ lock. meant ≡ Ok (view lock)) (λ 
 -- the value in `serde_json`'s pretty layout, each member once and in order, with one line feed behind it
 pub record IsPrinted (d : Data) (bytes : List ℕ) : Type 0 where
   pub text : List ℕ
-  pub line_feed : bytes ≡ text ++ 10 ∷ []
+  pub line_feed : bytes ≡ text ++ LINE_FEED ∷ []
   pub layout : text ≡ pretty (tokens text)
   pub order : IsInOrder text d

@@ -1,21 +1,19 @@
 // The value of a lockfile without some of its entries.
-ghost use Rattle.std.specs.Prelude.{◌≡◌, ℕ, List, Some, IfOk, IfErr};
+ghost use Rattle.std.specs.Prelude.{◌≡◌, ℕ, List, Some, IfOk, IsOkUnless};
 ghost use Rattle.std.specs.Option.{option_map};
 ghost use Rattle.std.specs.List.Sorted.{IsSorted};
 ghost use Rattle.serde_json.specs.View.{view, members_view};
-ghost use Rattle.rel_path.specs.Memory.{OnlyMemory};
 ghost use Rattle.rel_path.specs.Paths.{name_cmp};
 ghost use Rattle.npm_lock.specs.Cut.{is_in, folder_of, passes, keeps, picked, cut_entry, cut_top, cut};
 
-use rel_path::{PathErr, Text, Texts};
+use rel_path::{Text, Texts};
 use serde_json::{Map, Value};
 use std::alloc::{AllocError, Global};
 use std::cmp::Ordering;
 
-fn sorted(texts: &Texts) -> Result<Vec<Text>, PathErr>
+fn sorted(texts: &Texts) -> Result<Vec<Text>, AllocError>
     ensures sorted { IfOk result (λ sorted. IsSorted name_cmp sorted.items) }
     ensures same { IfOk result (λ sorted. is_in sorted.items ≡ is_in texts.now) }
-    ensures memory { OnlyMemory result }
 {
     let mut sorted = texts.copy()?.into_vec();
     sorted.sort()?;
@@ -133,9 +131,8 @@ pub(crate) fn cut_value(
     value: &Value,
     folders: &Texts,
     locations: &Texts,
-) -> Result<Value, PathErr>
+) -> Result<Value, AllocError>
     ensures cut { IfOk result (λ now. view now ≡ cut folders.now locations.now (view value.now)) }
-    ensures memory { OnlyMemory result }
 {
     let folders = sorted(folders)?;
     let locations = sorted(locations)?;

@@ -2,7 +2,7 @@
 ghost use Rattle.std.specs.Prelude.{◌≡◌};
 ghost use Rattle.npm_lock.specs.declared.error.ExtErr.TheVariants.{OutOfMemory};
 
-use rel_path::{PathErr, Text};
+use rel_path::Text;
 use std::alloc::AllocError;
 use thiserror::Error;
 
@@ -20,15 +20,6 @@ impl From<AllocError> for ExtErr {
     ghost from_gives = { λ _ e. e ≡ OutOfMemory };
 
     fn from(_error: AllocError) -> ExtErr {
-        ExtErr::OutOfMemory
-    }
-}
-
-// For calls whose only error is want of memory.
-impl From<PathErr> for ExtErr {
-    ghost from_gives = { λ _ e. e ≡ OutOfMemory };
-
-    fn from(_error: PathErr) -> ExtErr {
         ExtErr::OutOfMemory
     }
 }

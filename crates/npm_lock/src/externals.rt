@@ -1,28 +1,21 @@
 // What starts reach among the entries of a lockfile.
-ghost use Rattle.std.specs.Prelude.{◌≡◌, ◌↔◌, ◌<◌, ◌^◌, ◌++◌, ℕ, List, length, map, filter, false, Some, None, IsSome, IfOk, IfErr};
+ghost use Rattle.std.specs.Prelude.{◌≡◌, ◌↔◌, ◌<◌, ◌^◌, ◌++◌, ℕ, List, length, map, None, IfOk};
 ghost use Rattle.std.specs.Option.{option_to_list};
 ghost use Rattle.std.specs.List.Sorted.{IsStrictlySortedBy};
-ghost use Rattle.serde_json.specs.View.{view};
-ghost use Rattle.serde_json.specs.Find.{get};
-ghost use Rattle.serde_json.specs.Written.{has_float};
-ghost use Rattle.rel_path.specs.Memory.{OnlyMemory};
 ghost use Rattle.rel_path.specs.Paths.{name_cmp};
 ghost use Rattle.lock_entries.specs.Lockfile.{Ascend};
 ghost use Rattle.lock_entries.specs.declared.entry.Entry.{Entry};
-ghost use Rattle.npm_lock.specs.Externals.{IsExternals, text_in, IsLinked};
+ghost use Rattle.npm_lock.specs.Externals.{IsExternals, IsLinked};
 ghost use Rattle.npm_lock.specs.Finds.{found_by};
 ghost use Rattle.npm_lock.specs.Lacks.{least_after, start_lacks, lacks_of, member_lacks};
 ghost use Rattle.npm_lock.specs.Reach.{set_of, links_of};
 ghost use Rattle.npm_lock.specs.Sets.{Has};
-ghost use Rattle.npm_lock.specs.declared.error.ExtErr.TheVariants.{OutOfMemory};
 
-use crate::ExtErr;
 use crate::finds::Finds;
 use crate::reach::reach;
 use crate::start::{Lack, Start, entry_lack, roots, start_lack};
 use lock_entries::Entry;
-use rel_path::{Pairs, PathErr, Text, Texts};
-use serde_json::Value;
+use rel_path::{Text, Texts};
 use std::alloc::{AllocError, Global};
 
 /// The flags of the locations that the starts reach.
@@ -47,10 +40,9 @@ fn lack_at(
     found: &Finds,
     is_member: bool,
     least: Option<Lack>,
-) -> Result<Option<Lack>, PathErr>
+) -> Result<Option<Lack>, AllocError>
     requires { entry.now.link ≡ None → length found.now ≡ length entry.now.names }
     ensures least { IfOk result (λ now. now ≡ least_after (lacks_of is_member entry.now found.now) least) }
-    ensures memory { OnlyMemory result }
 {
     if is_member && entry.link.is_none() {
         entry_lack(entry, found.as_slice(), least)
@@ -64,12 +56,11 @@ fn member_lack(
     finds: &[Finds],
     set: &[bool],
     least: Option<Lack>,
-) -> Result<Option<Lack>, PathErr>
+) -> Result<Option<Lack>, AllocError>
     requires ascend { Ascend entries.now }
     requires found { finds.now ≡ map (found_by entries.now) entries.now }
     requires size { length set.now ≡ length entries.now }
     ensures least { IfOk result (λ now. now ≡ least_after (member_lacks entries.now (set_of entries.now set.now) entries.now) least) }
-    ensures memory { OnlyMemory result }
 {
     let mut least = least;
     for (i, entry) in entries.iter().enumerate() {
@@ -85,59 +76,19 @@ pub(crate) fn least_lack(
     finds: &[Finds],
     set: &[bool],
     starts: &[Start],
-) -> Result<Option<Lack>, PathErr>
+) -> Result<Option<Lack>, AllocError>
     requires ascend { Ascend entries.now }
     requires few { length entries.now < 2 ^ 32 }
     requires found { finds.now ≡ map (found_by entries.now) entries.now }
     requires size { length set.now ≡ length entries.now }
     ensures least { IfOk result (λ least. least ≡ least_after (member_lacks entries.now (set_of entries.now set.now) entries.now) (least_after (start_lacks entries.now starts.now) None)) }
-    ensures memory { OnlyMemory result }
 {
     let least = start_lack(entries, starts)?;
     member_lack(entries, finds, set, least)
 }
 
-// The text of the entry at a location.
-#[tactic(auto, unfolding(crate::specs::Externals::text_in))]
-fn text_of(alloc: Global, packages: &Value, location: &str) -> Result<Text, AllocError>
-    requires there { IsSome (get location.now (view packages.now)) }
-    requires whole { has_float (view packages.now) ≡ false }
-    ensures { IfOk result (λ text. text ≡ text_in (Some (view packages.now)) location.now) }
-{
-    match packages.get(location) {
-        Some(value) => Ok(Text::from_string(value.to_string(alloc)?)),
-        None => unreachable!(),
-    }
-}
-
-/// The locations of the set, each with the text of its entry.
-pub(crate) fn members(
-    alloc: Global,
-    packages: &Value,
-    entries: &[Entry],
-    set: &[bool],
-) -> Result<Pairs, ExtErr>
-    requires ascend { Ascend entries.now }
-    requires size { length set.now ≡ length entries.now }
-    requires there { (e : Entry) → Has entries.now e → IsSome (get e.location (view packages.now)) }
-    requires whole { has_float (view packages.now) ≡ false }
-    ensures pairs { IfOk result (λ pairs. pairs ≡ map (λ e. (e.location, text_in (Some (view packages.now)) e.location))
-        (filter (λ e. set_of entries.now set.now e.location) entries.now)) }
-    ensures memory { IfErr result (λ e. e ≡ OutOfMemory) }
-{
-    let mut pairs = Pairs::new(alloc);
-    for (i, entry) in entries.iter().enumerate() {
-        if set[i] {
-            let text = text_of(alloc, packages, entry.location.as_str())?;
-            pairs.push((entry.location.copy()?, text))?;
-        }
-    }
-    Ok(pairs)
-}
-
-fn with_link(mut folders: Vec<Text>, link: &Option<Text>) -> Result<Vec<Text>, PathErr>
+fn with_link(mut folders: Vec<Text>, link: &Option<Text>) -> Result<Vec<Text>, AllocError>
     ensures folders { IfOk result (λ now. now.items ≡ folders.items ++ option_to_list link.now) }
-    ensures memory { OnlyMemory result }
 {
     if let Some(folder) = link {
         folders.push(folder.copy()?)?;
@@ -145,11 +96,10 @@ fn with_link(mut folders: Vec<Text>, link: &Option<Text>) -> Result<Vec<Text>, P
     Ok(folders)
 }
 
-fn linked(alloc: Global, entries: &[Entry], set: &[bool]) -> Result<Vec<Text>, PathErr>
+fn linked(alloc: Global, entries: &[Entry], set: &[bool]) -> Result<Vec<Text>, AllocError>
     requires ascend { Ascend entries.now }
     requires size { length set.now ≡ length entries.now }
     ensures folders { IfOk result (λ folders. folders.items ≡ links_of (set_of entries.now set.now) entries.now) }
-    ensures memory { OnlyMemory result }
 {
     let mut folders = Vec::new(alloc);
     for (i, entry) in entries.iter().enumerate() {
@@ -161,12 +111,11 @@ fn linked(alloc: Global, entries: &[Entry], set: &[bool]) -> Result<Vec<Text>, P
 }
 
 /// The folders that the links of the set lead to, ascending, each once.
-pub(crate) fn links(alloc: Global, entries: &[Entry], set: &[bool]) -> Result<Texts, PathErr>
+pub(crate) fn links(alloc: Global, entries: &[Entry], set: &[bool]) -> Result<Texts, AllocError>
     requires ascend { Ascend entries.now }
     requires size { length set.now ≡ length entries.now }
     ensures ascending { IfOk result (IsStrictlySortedBy name_cmp) }
     ensures linked { IfOk result (λ folders. (folder : List ℕ) → Has folders folder ↔ IsLinked entries.now (set_of entries.now set.now) folder) }
-    ensures memory { OnlyMemory result }
 {
     let mut folders = linked(alloc, entries, set)?;
     folders.sort()?;

@@ -1,5 +1,5 @@
 // What the names of each entry find, looked up once.
-ghost use Rattle.std.specs.Prelude.{◌≡◌, ◌<◌, ◌^◌, length, map, IfOk, IfErr};
+ghost use Rattle.std.specs.Prelude.{◌≡◌, ◌<◌, ◌^◌, length, map, IfOk, IsOkUnless};
 ghost use Rattle.lock_entries.specs.Lockfile.{Ascend};
 ghost use Rattle.lock_entries.specs.declared.error.LockErr.TheVariants.{OutOfMemory};
 ghost use Rattle.npm_lock.specs.Finds.{found_by};
@@ -37,7 +37,7 @@ fn found_by(alloc: Global, entries: &[Entry], entry: &Entry) -> Result<Finds, Lo
     requires ascend { Ascend entries.now }
     requires few { length entries.now < 2 ^ 32 }
     ensures found { IfOk result (λ finds. finds ≡ found_by entries.now entry.now) }
-    ensures memory { IfErr result (λ e. e ≡ OutOfMemory) }
+    ensures memory { IsOkUnless result OutOfMemory }
 {
     let mut items = Vec::new(alloc);
     if entry.link.is_some() {
@@ -54,7 +54,7 @@ pub(crate) fn all_found(alloc: Global, entries: &[Entry]) -> Result<Vec<Finds>, 
     requires ascend { Ascend entries.now }
     requires few { length entries.now < 2 ^ 32 }
     ensures found { IfOk result (λ finds. finds.items ≡ map (found_by entries.now) entries.now) }
-    ensures memory { IfErr result (λ e. e ≡ OutOfMemory) }
+    ensures memory { IsOkUnless result OutOfMemory }
 {
     let mut finds = Vec::new(alloc);
     for entry in entries {

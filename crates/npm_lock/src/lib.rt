@@ -9,6 +9,7 @@ mod lock;
 mod lookup;
 mod reach;
 mod start;
+mod texts;
 
 pub use error::ExtErr;
 pub use lock::Lock;

@@ -1,35 +1,36 @@
 // A lockfile that was read.
-ghost use Rattle.std.specs.Prelude.{◌≡◌, ◌<◌, ◌^◌, length, ◌≤◌, map, Ok, Some, IsSome, IfSome, IfOk, IfErr, codes, false};
+ghost use Rattle.std.specs.Prelude.{◌≡◌, ◌<◌, ◌^◌, length, ◌≤◌, map, Ok, Some, IfSome, IfOk, codes, IsOkUnless};
 ghost use Rattle.std.specs.Option.{option_map};
 ghost use Rattle.std.specs.List.{slice_get};
 ghost use Rattle.serde_json.specs.View.{view};
 ghost use Rattle.lock_entries.specs.Lockfile.{entries_in, lock_refusal, Ascend};
 ghost use Rattle.serde_json.specs.Find.{get};
-ghost use Rattle.serde_json.specs.Written.{has_float};
-ghost use Rattle.lock_entries.specs.declared.entry.Entry.{Entry};
 ghost use Rattle.serde_json.specs.Data.{depth};
 ghost use Rattle.serde_json.specs.Read.{max_depth};
 ghost use Rattle.lock_entries.specs.Errors.{Accepts};
 ghost use Rattle.lock_entries.specs.declared.error.LockErr.TheVariants.{OutOfMemory};
 ghost use Rattle.npm_lock.specs.Cut.{cut};
-ghost use Rattle.npm_lock.specs.Externals.{Externals, Links};
-ghost use Rattle.npm_lock.specs.Sets.{Has};
+ghost use Rattle.npm_lock.specs.Externals.{Externals, Links, texts_in, members_in};
+ghost use Rattle.npm_lock.specs.Reach.{set_of};
 ghost use Rattle.npm_lock.specs.Reading.{lock_of, Reads, IsPrinted};
 ghost use Rattle.npm_lock.specs.Finds.{found_by};
 ghost use Rattle.npm_lock.specs.Lookup.{found_number};
 
 use crate::ExtErr;
 use crate::cut::cut_value;
-use crate::externals::{least_lack, links, members, reached};
+use crate::externals::{least_lack, links, reached};
 use crate::finds::{Finds, all_found};
 use crate::lookup::found_number;
 use crate::start::{Lack, Start};
+use crate::texts::entry_texts;
 use json_view::View;
 use lock_entries::{Entry, LockErr, read_entries};
 use rel_path::{Bytes, Pairs, Text, Texts};
 use serde_json::Value;
-use std::alloc::Global;
+use std::alloc::{AllocError, Global};
 use std::marker::Model;
+
+const LINE_FEED: u8 = b'\n';
 
 /// A lockfile, which contracts see as the JSON value that the file writes. Its locations are numbered from 0 in the
 /// order of their bytes.
@@ -39,6 +40,8 @@ pub struct Lock {
     entries: Vec<Entry>,
     // What the names of each entry find.
     finds: Vec<Finds>,
+    // Each entry as `serde_json` writes it without blanks.
+    texts: Texts,
 }
 
 impl Model for Lock {
@@ -55,7 +58,7 @@ impl Model for Lock {
 
     ghost view = { λ l. l.value };
 
-    ghost invariant = { λ l. IsLock l.value l.entries.items l.finds.items };
+    ghost invariant = { λ l. IsLock l.value l.entries.items l.finds.items l.texts };
 }
 
 impl Lock {
@@ -75,10 +78,12 @@ impl Lock {
     {
         let entries = read_entries(alloc, &value)?;
         let finds = all_found(alloc, entries.as_slice())?;
+        let texts = entry_texts(alloc, &value, entries.as_slice())?;
         Ok(Lock {
             value,
             entries,
             finds,
+            texts,
         })
     }
 
@@ -122,16 +127,28 @@ impl Lock {
         self.entries()[number as usize].link.as_ref()
     }
 
-    // The value of `packages`.
-    fn packages(&self) -> &Value
-        ensures value { Some (view result.now) ≡ get (codes "packages") (view self.now) }
-        ensures whole { has_float (view result.now) ≡ false }
-        ensures there { (e : Entry) → Has (entries_in (view self.now)) e → IsSome (get e.location (view result.now)) }
+    fn texts(&self) -> &[Text]
+        ensures { let packages = get (codes "packages") (view self.now) in
+            result.now ≡ texts_in packages (entries_in (view self.now)) }
     {
-        match self.value.get("packages") {
-            Some(packages) => packages,
-            None => unreachable!(),
+        self.texts.as_slice()
+    }
+
+    // The locations of the set, each with the text of its entry.
+    fn members(&self, alloc: Global, set: &[bool]) -> Result<Pairs, AllocError>
+        requires { length set.now ≡ length (entries_in (view self.now)) }
+        ensures { let members = set_of (entries_in (view self.now)) set.now in
+            IfOk result (λ pairs. pairs ≡ members_in (view self.now) members) }
+    {
+        let entries = self.entries();
+        let texts = self.texts();
+        let mut pairs = Pairs::new(alloc);
+        for (i, entry) in entries.iter().enumerate() {
+            if set[i] {
+                pairs.push((entry.location.copy()?, texts[i].copy()?))?;
+            }
         }
+        pairs.share(alloc)
     }
 
     /// The locations that the starts reach, ascending, each with its entry as `serde_json` writes it without blanks:
@@ -146,7 +163,7 @@ impl Lock {
         let set = reached(alloc, entries, self.finds(), starts)?;
         match least_lack(entries, self.finds(), set.as_slice(), starts)? {
             Some(Lack { from, name }) => Err(ExtErr::Missing { from, name }),
-            None => members(alloc, self.packages(), entries, set.as_slice()),
+            None => Ok(self.members(alloc, set.as_slice())?),
         }
     }
 
@@ -164,7 +181,7 @@ impl Lock {
     /// that lead to them, and the entries of the locations `keep`. Its only error is want of memory.
     pub fn cut(&self, alloc: Global, folders: &Texts, keep: &Texts) -> Result<Lock, LockErr>
         ensures cut { IfOk result (λ lock. view lock ≡ cut folders.now keep.now (view self.now)) }
-        ensures memory { IfErr result (λ e. e ≡ OutOfMemory) }
+        ensures memory { IsOkUnless result OutOfMemory }
     {
         let value = cut_value(alloc, &self.value, folders, keep)?;
         Lock::from_value(alloc, value)
@@ -175,10 +192,10 @@ impl Lock {
     pub fn print(&self, alloc: Global) -> Result<Bytes, LockErr>
         ensures back { IfOk result (λ bytes. lock_of bytes ≡ Ok (view self.now)) }
         ensures printed { IfOk result (IsPrinted (view self.now)) }
-        ensures memory { IfErr result (λ e. e ≡ OutOfMemory) }
+        ensures memory { IsOkUnless result OutOfMemory }
     {
         let mut text = self.value.to_vec_pretty(alloc)?;
-        text.push(b'\n')?;
+        text.push(LINE_FEED)?;
         Ok(Bytes::from_vec(text))
     }
 }

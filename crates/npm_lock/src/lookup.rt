@@ -7,6 +7,8 @@ ghost use Rattle.npm_lock.specs.Lookup.{is_modules, place_in, above, above_witho
 use lock_entries::Entry;
 use std::cmp::Ordering;
 
+const SLASH: u8 = b'/';
+
 const MODULES: &[u8] = b"node_modules/";
 
 const BELOW: &[u8] = b"/node_modules/";
@@ -74,7 +76,7 @@ fn found_above(entries: &[Entry], from: &[u8], name: &[u8]) -> Option<u32>
     while end > 0 {
         end -= 1;
         let folder = &from[..end];
-        if from[end] == b'/' && !is_modules(folder) {
+        if from[end] == SLASH && !is_modules(folder) {
             let found = number_of(entries, folder, name);
             if found.is_some() {
                 return found;

@@ -1,14 +1,13 @@
 // Names that are looked up, and those that are missing.
-ghost use Rattle.std.specs.Prelude.{◌≡◌, ◌<◌, ◌^◌, [], length, map, None, IfOk};
+ghost use Rattle.std.specs.Prelude.{◌≡◌, ◌<◌, ◌^◌, [], length, map, None, IfOk, IsOkUnless};
 ghost use Rattle.std.specs.Ordering.{is_lt};
-ghost use Rattle.rel_path.specs.Memory.{OnlyMemory};
 ghost use Rattle.lock_entries.specs.Lockfile.{Ascend};
 ghost use Rattle.npm_lock.specs.Finds.{root_of};
 ghost use Rattle.npm_lock.specs.Lacks.{lack_cmp, lesser, least_after, with_lack, is_lacking, start_lacks, lacks_by};
 
 use crate::lookup::found_number;
 use lock_entries::Entry;
-use rel_path::{PathErr, Text};
+use rel_path::Text;
 use std::alloc::{AllocError, Global};
 use std::cmp::Ordering;
 
@@ -90,9 +89,8 @@ fn lack_after(
     soft: bool,
     found: Option<u32>,
     least: Option<Lack>,
-) -> Result<Option<Lack>, PathErr>
+) -> Result<Option<Lack>, AllocError>
     ensures least { IfOk result (λ now. now ≡ least_after (with_lack (is_lacking soft found) (record { from = from.now; name = name.now }) []) least) }
-    ensures memory { OnlyMemory result }
 {
     if soft || found.is_some() {
         return Ok(least);
@@ -105,11 +103,10 @@ fn lack_after(
 }
 
 /// The least of the starts that have to find something and don't.
-pub(crate) fn start_lack(entries: &[Entry], starts: &[Start]) -> Result<Option<Lack>, PathErr>
+pub(crate) fn start_lack(entries: &[Entry], starts: &[Start]) -> Result<Option<Lack>, AllocError>
     requires ascend { Ascend entries.now }
     requires few { length entries.now < 2 ^ 32 }
     ensures least { IfOk result (λ least. least ≡ least_after (start_lacks entries.now starts.now) None) }
-    ensures memory { OnlyMemory result }
 {
     let mut least = None;
     for start in starts {
@@ -124,10 +121,9 @@ pub(crate) fn entry_lack(
     entry: &Entry,
     found: &[Option<u32>],
     least: Option<Lack>,
-) -> Result<Option<Lack>, PathErr>
+) -> Result<Option<Lack>, AllocError>
     requires { length found.now ≡ length entry.now.names }
     ensures least { IfOk result (λ now. now ≡ least_after (lacks_by entry.now.location entry.now.names found.now) least) }
-    ensures memory { OnlyMemory result }
 {
     let mut least = least;
     for (i, name) in entry.names.as_slice().iter().enumerate() {

@@ -6,6 +6,8 @@ use Rattle.std.specs.Char.{is_ascii_digit}
 use Rattle.std.specs.List.{list_all, slice_split}
 use Rattle.std.specs.Str.Parse.{digits_value}
 use Rattle.semver.specs.Grammar.{has_leading_zero, is_build, is_pre_release}
+use Rattle.npm_range.specs.declared.characters.TheConstants.{TAB, SPACE, ASTERISK, PLUS, HYPHEN, DOT, LESS, EQUALS, GREATER, CARET, BAR, TILDE, VERSION_MARK, SMALL_X, LARGE_X}
+use Rattle.npm_range.specs.declared.version.TheConstants.{LARGEST}
 use Rattle.npm_range.specs.declared.comparator.Operator.{Operator}
 use Rattle.npm_range.specs.declared.comparator.Operator.TheVariants as operator
 use Rattle.npm_range.specs.declared.comparator.Numbers.{Numbers}
@@ -17,7 +19,7 @@ use Rattle.npm_range.specs.Table.{bounds}
 
 -- the largest whole number up to which JavaScript tells all, 2 ^ 53 - 1
 abbrev pub largest : ℕ
-largest = 9007199254740991
+largest = LARGEST
 
 -- digits without a leading zero, of a number that is not too large
 abbrev pub is_number : List ℕ → Bool
@@ -26,7 +28,7 @@ is_number text = nat_lt 0 (length text) && list_all is_ascii_digit text && not (
 -- `x`, `X` or `*`
 abbrev pub is_wild : List ℕ → Bool
 is_wild [] = false
-is_wild (b ∷ rest) = length rest == 0 && (b == 120 || b == 88 || b == 42)
+is_wild (b ∷ rest) = length rest == 0 && (b == SMALL_X || b == LARGE_X || b == ASTERISK)
 
 -- a part between dots: any number, or this one
 unfoldable pub part : List ℕ → Option (Option ℕ)
@@ -84,11 +86,11 @@ behind_in mark (Some text) = behind mark text
 
 -- the text between the first dot and the second, or behind the only one
 abbrev pub minor_in : List ℕ → Option (List ℕ)
-minor_in core = before_in 46 (behind 46 core)
+minor_in core = before_in DOT (behind DOT core)
 
 -- the text behind the second dot
 abbrev pub patch_in : List ℕ → Option (List ℕ)
-patch_in core = behind_in 46 (behind 46 core)
+patch_in core = behind_in DOT (behind DOT core)
 
 -- a part that is missing is any
 abbrev pub part_or_any : Option (List ℕ) → Option (Option ℕ)
@@ -97,7 +99,7 @@ part_or_any (Some text) = part text
 
 -- the numbers of one to three parts between dots; a dot in the third is in no number
 unfoldable pub numbers : List ℕ → Option Numbers
-numbers core = three (part (before 46 core)) (part_or_any (minor_in core)) (part_or_any (patch_in core))
+numbers core = three (part (before DOT core)) (part_or_any (minor_in core)) (part_or_any (patch_in core))
 
 -- a pre-release or build metadata stands behind three parts alone
 abbrev pub is_three : List ℕ → Bool
@@ -131,27 +133,27 @@ unfoldable pub tagged : List ℕ → Option (List ℕ) → Option (List ℕ) →
 tagged core pre build = if are_tags (is_three core) pre build then with_pre (numbers core) (or_empty pre) else None
 
 abbrev pub untagged : List ℕ → Option (List ℕ) → Option (Numbers × List ℕ)
-untagged front build = tagged (before 45 front) (behind 45 front) build
+untagged front build = tagged (before HYPHEN front) (behind HYPHEN front) build
 
 -- a version or partial version behind a `v` that may be left out: its numbers and its pre-release
 unfoldable pub version : List ℕ → Option (Numbers × List ℕ)
-version word = untagged (before 43 (without 118 word)) (behind 43 (without 118 word))
+version word = untagged (before PLUS (without VERSION_MARK word)) (behind PLUS (without VERSION_MARK word))
 
 -- ---- comparators
 
 abbrev pub or_equal : Operator → Operator → List ℕ → Option Operator × List ℕ
 or_equal alone with_equal [] = (Some alone, [])
-or_equal alone with_equal (b ∷ rest) = if b == 61 then (Some with_equal, rest) else (Some alone, b ∷ rest)
+or_equal alone with_equal (b ∷ rest) = if b == EQUALS then (Some with_equal, rest) else (Some alone, b ∷ rest)
 
 -- the operator at the front of a word, and the rest; `~>` is `~`
 abbrev pub operator_at : List ℕ → Option Operator × List ℕ
 operator_at [] = (None, [])
 operator_at (b ∷ rest) =
-    if b == 126 then (Some operator.Tilde, without 62 rest)
-    else if b == 94 then (Some operator.Caret, rest)
-    else if b == 61 then (Some operator.Equal, rest)
-    else if b == 62 then or_equal operator.Above operator.AtLeast rest
-    else if b == 60 then or_equal operator.Below operator.AtMost rest
+    if b == TILDE then (Some operator.Tilde, without GREATER rest)
+    else if b == CARET then (Some operator.Caret, rest)
+    else if b == EQUALS then (Some operator.Equal, rest)
+    else if b == GREATER then or_equal operator.Above operator.AtLeast rest
+    else if b == LESS then or_equal operator.Below operator.AtMost rest
     else (None, b ∷ rest)
 
 -- a word without an operator asks for that version
@@ -186,10 +188,10 @@ comparators None ((b ∷ word) ∷ words) =
 -- the words between the tabs of each piece between spaces
 abbrev pub words_of : List (List ℕ) → List (List ℕ)
 words_of [] = []
-words_of (piece ∷ pieces) = slice_split (λ b. b == 9) piece ++ words_of pieces
+words_of (piece ∷ pieces) = slice_split (λ b. b == TAB) piece ++ words_of pieces
 
 abbrev pub words : List ℕ → List (List ℕ)
-words text = words_of (slice_split (λ b. b == 32) text)
+words text = words_of (slice_split (λ b. b == SPACE) text)
 
 -- comparators between blanks, all of which have to hold; none for any version
 unfoldable pub set : List ℕ → Option (List Bound)
@@ -210,4 +212,4 @@ sets false ((b ∷ piece) ∷ pieces) = None
 
 -- one or more sets between `||`
 unfoldable pub range : List ℕ → Option (List (List Bound))
-range text = sets true (slice_split (λ b. b == 124) text)
+range text = sets true (slice_split (λ b. b == BAR) text)

@@ -1,11 +1,7 @@
 -- Why a text is no range.
-use Rattle.std.specs.Prelude.{◌≡◌, ◌⊎◌, Option, None, Some, Result, MatchResult, IfErr}
+use Rattle.std.specs.Prelude.{◌≡◌, ◌⊎◌, Option, None, Some, Result, MatchResult}
 use Rattle.npm_range.specs.declared.error.RangeErr.{RangeErr}
 use Rattle.npm_range.specs.declared.error.RangeErr.TheVariants.{NotARange, OutOfMemory}
-
--- no error but want of memory, which may come at any time
-abbrev pub OnlyMemory : {T : Type 0} → Result T RangeErr → Type 0
-OnlyMemory result = IfErr result (λ e. e ≡ OutOfMemory)
 
 -- want of memory, or the text says nothing
 abbrev pub MayRefuse : {T : Type 0} → Option T → RangeErr → Type 0

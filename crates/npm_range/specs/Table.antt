@@ -1,5 +1,5 @@
 -- The bounds that a comparator stands for (node-semver's documentation, "Advanced Range Syntax" and "Comparators").
-use Rattle.std.specs.Prelude.{ℕ, ◌+◌, Bool, false, not, ◌==◌, List, [], ◌∷◌, length, if◌then◌else◌}
+use Rattle.std.specs.Prelude.{ℕ, ◌+◌, Bool, false, not, ◌==◌, List, [], ◌∷◌, length, if◌then◌else◌, codes}
 use Rattle.npm_range.specs.declared.limit.Relation.{Relation}
 use Rattle.npm_range.specs.declared.limit.Relation.TheVariants as relation
 use Rattle.npm_range.specs.declared.comparator.Operator.{Operator}
@@ -14,7 +14,7 @@ final a b c = (a, b, c, [])
 
 -- the pre-release `0` of these numbers, before which none of them comes
 abbrev pub least : ℕ → ℕ → ℕ → Release
-least a b c = (a, b, c, 48 ∷ [])
+least a b c = (a, b, c, codes "0")
 
 -- a bound that the table gives
 abbrev pub given : Relation → Release → List Bound

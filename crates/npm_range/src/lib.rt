@@ -5,6 +5,7 @@
 //! versions bounds admit (`Limits`). Numbers, pre-releases and their order are those of SemVer 2.0.0, as `semver` has them.
 #![tactic(auto)]
 
+mod characters;
 mod comparator;
 mod error;
 mod limit;

@@ -4,9 +4,11 @@ ghost use Rattle.semver.specs.Identifiers.{pre_text};
 ghost use Rattle.npm_range.specs.Grammar as spec;
 ghost use Rattle.npm_range.specs.Limits.{admits, release_of, set_admits};
 ghost use Rattle.std.specs.List.{slice_split};
+ghost use Rattle.npm_range.specs.declared.characters.TheConstants.{TAB};
 ghost use Rattle.npm_range.specs.Reading.{Reads, reads_on};
 ghost use Rattle.npm_range.specs.Refusal.{MayRefuse};
 
+use crate::characters::{BAR, CARET, EQUALS, GREATER, LESS, SPACE, TAB, TILDE};
 use crate::comparator::Operator;
 use crate::error::RangeErr;
 use crate::limit::{Bound, is_admitted};
@@ -21,15 +23,15 @@ fn operator_at(word: &str) -> (Option<Operator>, &str)
     ensures operator { result.0 ≡ (spec.operator_at word.now).0 }
     ensures rest { result.1.now ≡ (spec.operator_at word.now).1 }
 {
-    if let Some(rest) = word.strip_prefix('~') {
-        (Some(Operator::Tilde), without(rest, '>'))
-    } else if let Some(rest) = word.strip_prefix('^') {
+    if let Some(rest) = word.strip_prefix(TILDE) {
+        (Some(Operator::Tilde), without(rest, GREATER))
+    } else if let Some(rest) = word.strip_prefix(CARET) {
         (Some(Operator::Caret), rest)
-    } else if let Some(rest) = word.strip_prefix('=') {
+    } else if let Some(rest) = word.strip_prefix(EQUALS) {
         (Some(Operator::Equal), rest)
-    } else if let Some(rest) = word.strip_prefix('>') {
+    } else if let Some(rest) = word.strip_prefix(GREATER) {
         or_equal(Operator::Above, Operator::AtLeast, rest)
-    } else if let Some(rest) = word.strip_prefix('<') {
+    } else if let Some(rest) = word.strip_prefix(LESS) {
         or_equal(Operator::Below, Operator::AtMost, rest)
     } else {
         (None, word)
@@ -40,7 +42,7 @@ fn or_equal(alone: Operator, equal: Operator, rest: &str) -> (Option<Operator>, 
     ensures operator { result.0 ≡ (spec.or_equal alone equal rest.now).0 }
     ensures rest { result.1.now ≡ (spec.or_equal alone equal rest.now).1 }
 {
-    match rest.strip_prefix('=') {
+    match rest.strip_prefix(EQUALS) {
         Some(rest) => (Some(equal), rest),
         None => (Some(alone), rest),
     }
@@ -84,9 +86,9 @@ impl Reader {
 
     /// Reads the words between the tabs of a piece.
     fn read_piece(&mut self, alloc: Global, piece: &str) -> Result<(), RangeErr>
-        ensures { Reads self.old (slice_split (λ b. b == 9) piece.now) result self.new }
+        ensures { Reads self.old (slice_split (λ b. b == TAB) piece.now) result self.new }
     {
-        for word in piece.split('\t') {
+        for word in piece.split(TAB) {
             self.read_word(alloc, word)?;
         }
         Ok(())
@@ -102,7 +104,7 @@ fn read_set(alloc: Global, text: &str) -> Result<Vec<Bound>, RangeErr>
         waiting: None,
         bounds: Vec::new(alloc),
     };
-    for piece in text.split(' ') {
+    for piece in text.split(SPACE) {
         reader.read_piece(alloc, piece)?;
     }
     match reader.waiting {
@@ -155,7 +157,7 @@ fn read_sets(alloc: Global, text: &str) -> Result<Vec<Set>, RangeErr>
 {
     let mut sets = Vec::new(alloc);
     let mut is_set = true;
-    for piece in text.split('|') {
+    for piece in text.split(BAR) {
         if is_set {
             let bounds = read_set(alloc, piece)?;
             sets.push(Set { bounds })?;

@@ -1,8 +1,7 @@
 // The bounds that a comparator stands for.
-ghost use Rattle.std.specs.Prelude.{◌≡◌, ◌++◌, ◌==◌, ◌∷◌, [], not, length, IfOk, OnOk};
+ghost use Rattle.std.specs.Prelude.{◌≡◌, ◌++◌, ◌==◌, ◌∷◌, [], not, length, IfOk, OnOk, IsOkUnless};
 ghost use Rattle.semver.specs.Identifiers.{pre_text};
 ghost use Rattle.npm_range.specs.Limits.{release_of};
-ghost use Rattle.npm_range.specs.Refusal.{OnlyMemory};
 ghost use Rattle.npm_range.specs.Grammar.{AreSmall};
 ghost use Rattle.npm_range.specs.Table as spec;
 
@@ -22,7 +21,7 @@ fn final_of(major: u64, minor: u64, patch: u64) -> Version
 /// The pre-release `0` of these numbers, before which none of them comes.
 fn least(alloc: Global, major: u64, minor: u64, patch: u64) -> Result<Version, RangeErr>
     ensures value { IfOk result (λ v. release_of v ≡ spec.least major minor patch) }
-    ensures memory { OnlyMemory result }
+    ensures memory { IsOkUnless result RangeErr.OutOfMemory }
 {
     let Ok(pre) = Prerelease::new(alloc, "0") else {
         return Err(RangeErr::OutOfMemory);
@@ -52,7 +51,7 @@ fn written(relation: Relation, version: Version) -> Bound
 
 fn add(set: &mut Vec<Bound>, bound: Bound) -> Result<(), RangeErr>
     ensures value { OnOk result (set.new.items ≡ set.old.items ++ bound ∷ []) }
-    ensures memory { OnlyMemory result }
+    ensures memory { IsOkUnless result RangeErr.OutOfMemory }
 {
     set.push(bound)?;
     Ok(())
@@ -60,28 +59,28 @@ fn add(set: &mut Vec<Bound>, bound: Bound) -> Result<(), RangeErr>
 
 fn add_from(set: &mut Vec<Bound>, low: Version) -> Result<(), RangeErr>
     ensures value { OnOk result (set.new.items ≡ set.old.items ++ spec.from (release_of low)) }
-    ensures memory { OnlyMemory result }
+    ensures memory { IsOkUnless result RangeErr.OutOfMemory }
 {
     add(set, Bound::new(Relation::From, low, false))
 }
 
 fn add_below(set: &mut Vec<Bound>, high: Version) -> Result<(), RangeErr>
     ensures value { OnOk result (set.new.items ≡ set.old.items ++ spec.below (release_of high)) }
-    ensures memory { OnlyMemory result }
+    ensures memory { IsOkUnless result RangeErr.OutOfMemory }
 {
     add(set, Bound::new(Relation::Below, high, false))
 }
 
 fn add_written(set: &mut Vec<Bound>, relation: Relation, version: Version) -> Result<(), RangeErr>
     ensures value { OnOk result (set.new.items ≡ set.old.items ++ spec.written relation (release_of version)) }
-    ensures memory { OnlyMemory result }
+    ensures memory { IsOkUnless result RangeErr.OutOfMemory }
 {
     add(set, written(relation, version))
 }
 
 fn add_between(set: &mut Vec<Bound>, low: Version, high: Version) -> Result<(), RangeErr>
     ensures value { OnOk result (set.new.items ≡ set.old.items ++ spec.between (release_of low) (release_of high)) }
-    ensures memory { OnlyMemory result }
+    ensures memory { IsOkUnless result RangeErr.OutOfMemory }
 {
     add_from(set, low)?;
     add_below(set, high)
@@ -89,7 +88,7 @@ fn add_between(set: &mut Vec<Bound>, low: Version, high: Version) -> Result<(), 
 
 fn add_up_from(set: &mut Vec<Bound>, low: Version, high: Version) -> Result<(), RangeErr>
     ensures value { OnOk result (set.new.items ≡ set.old.items ++ spec.up_from (release_of low) (release_of high)) }
-    ensures memory { OnlyMemory result }
+    ensures memory { IsOkUnless result RangeErr.OutOfMemory }
 {
     add_written(set, Relation::From, low)?;
     add_below(set, high)
@@ -97,7 +96,7 @@ fn add_up_from(set: &mut Vec<Bound>, low: Version, high: Version) -> Result<(), 
 
 fn add_none(alloc: Global, set: &mut Vec<Bound>) -> Result<(), RangeErr>
     ensures value { OnOk result (set.new.items ≡ set.old.items ++ spec.none) }
-    ensures memory { OnlyMemory result }
+    ensures memory { IsOkUnless result RangeErr.OutOfMemory }
 {
     add_below(set, least(alloc, 0, 0, 0)?)
 }
@@ -111,7 +110,7 @@ fn add_equal(
 ) -> Result<(), RangeErr>
     requires { AreSmall numbers }
     ensures value { OnOk result (set.new.items ≡ set.old.items ++ spec.equal numbers (pre_text pre)) }
-    ensures memory { OnlyMemory result }
+    ensures memory { IsOkUnless result RangeErr.OutOfMemory }
 {
     match numbers {
         Numbers::Any => Ok(()),
@@ -130,7 +129,7 @@ fn add_tilde(
 ) -> Result<(), RangeErr>
     requires { AreSmall numbers }
     ensures value { OnOk result (set.new.items ≡ set.old.items ++ spec.tilde numbers (pre_text pre)) }
-    ensures memory { OnlyMemory result }
+    ensures memory { IsOkUnless result RangeErr.OutOfMemory }
 {
     match numbers {
         Numbers::Any => Ok(()),
@@ -148,7 +147,7 @@ fn add_tilde(
 fn after_two(alloc: Global, a: u64, b: u64) -> Result<Version, RangeErr>
     requires { AreSmall (Numbers.Minor a b) }
     ensures value { IfOk result (λ v. release_of v ≡ spec.kept_two a b) }
-    ensures memory { OnlyMemory result }
+    ensures memory { IsOkUnless result RangeErr.OutOfMemory }
 {
     if a == 0 {
         least(alloc, 0, b + 1, 0)
@@ -161,7 +160,7 @@ fn after_two(alloc: Global, a: u64, b: u64) -> Result<Version, RangeErr>
 fn after_three(alloc: Global, a: u64, b: u64, c: u64) -> Result<Version, RangeErr>
     requires { AreSmall (Numbers.Full a b c) }
     ensures value { IfOk result (λ v. release_of v ≡ spec.kept_three a b c) }
-    ensures memory { OnlyMemory result }
+    ensures memory { IsOkUnless result RangeErr.OutOfMemory }
 {
     if a > 0 {
         least(alloc, a + 1, 0, 0)
@@ -181,7 +180,7 @@ fn add_caret(
 ) -> Result<(), RangeErr>
     requires { AreSmall numbers }
     ensures value { OnOk result (set.new.items ≡ set.old.items ++ spec.caret numbers (pre_text pre)) }
-    ensures memory { OnlyMemory result }
+    ensures memory { IsOkUnless result RangeErr.OutOfMemory }
 {
     match numbers {
         Numbers::Any => Ok(()),
@@ -204,7 +203,7 @@ fn add_above(
 ) -> Result<(), RangeErr>
     requires { AreSmall numbers }
     ensures value { OnOk result (set.new.items ≡ set.old.items ++ spec.above numbers (pre_text pre)) }
-    ensures memory { OnlyMemory result }
+    ensures memory { IsOkUnless result RangeErr.OutOfMemory }
 {
     match numbers {
         Numbers::Any => add_none(alloc, set),
@@ -217,7 +216,7 @@ fn add_above(
 /// `>=1.2.3`.
 fn add_at_least(set: &mut Vec<Bound>, numbers: Numbers, pre: Prerelease) -> Result<(), RangeErr>
     ensures value { OnOk result (set.new.items ≡ set.old.items ++ spec.at_least numbers (pre_text pre)) }
-    ensures memory { OnlyMemory result }
+    ensures memory { IsOkUnless result RangeErr.OutOfMemory }
 {
     match numbers {
         Numbers::Any => Ok(()),
@@ -236,7 +235,7 @@ fn add_under(
 ) -> Result<(), RangeErr>
     requires { AreSmall numbers }
     ensures value { OnOk result (set.new.items ≡ set.old.items ++ spec.under numbers (pre_text pre)) }
-    ensures memory { OnlyMemory result }
+    ensures memory { IsOkUnless result RangeErr.OutOfMemory }
 {
     match numbers {
         Numbers::Any => add_none(alloc, set),
@@ -255,7 +254,7 @@ fn add_at_most(
 ) -> Result<(), RangeErr>
     requires { AreSmall numbers }
     ensures value { OnOk result (set.new.items ≡ set.old.items ++ spec.at_most numbers (pre_text pre)) }
-    ensures memory { OnlyMemory result }
+    ensures memory { IsOkUnless result RangeErr.OutOfMemory }
 {
     match numbers {
         Numbers::Any => Ok(()),
@@ -276,7 +275,7 @@ pub(crate) fn add_bounds(
 ) -> Result<(), RangeErr>
     requires { AreSmall numbers }
     ensures value { OnOk result (set.new.items ≡ set.old.items ++ spec.bounds operator numbers (pre_text pre)) }
-    ensures memory { OnlyMemory result }
+    ensures memory { IsOkUnless result RangeErr.OutOfMemory }
 {
     match operator {
         Operator::Equal => add_equal(alloc, set, numbers, pre),

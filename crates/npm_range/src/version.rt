@@ -9,6 +9,7 @@ ghost use Rattle.semver.specs.Parse.{memory_error};
 ghost use Rattle.npm_range.specs.Refusal.{MayRefuse};
 ghost use Rattle.npm_range.specs.Grammar as spec;
 
+use crate::characters::{ASTERISK, DOT, HYPHEN, LARGE_X, PLUS, SMALL_X, VERSION_MARK};
 use crate::comparator::Numbers;
 use crate::error::RangeErr;
 use semver::{BuildMetadata, Error, Prerelease};
@@ -40,7 +41,7 @@ pub(crate) fn without(text: &str, mark: char) -> &str
 fn is_wild(text: &str) -> bool
     ensures { result ≡ spec.is_wild text.now }
 {
-    matches!(text.as_bytes(), [b'x' | b'X' | b'*'])
+    matches!(text.as_bytes(), [SMALL_X | LARGE_X | ASTERISK])
 }
 
 fn are_digits(text: &str) -> bool
@@ -128,8 +129,8 @@ fn numbers(core: &str) -> Option<(Numbers, bool)>
     ensures value { MatchOption result (spec.numbers core.now ≡ None) (λ r. (spec.numbers core.now ≡ Some r.0) × (r.1 ≡ spec.is_three core.now)) }
     ensures small { IfSome result (λ r. spec.AreSmall r.0) }
 {
-    let (major, rest) = cut(core, '.');
-    let (minor, patch) = cut_some(rest, '.');
+    let (major, rest) = cut(core, DOT);
+    let (minor, patch) = cut_some(rest, DOT);
     let is_three = patch.is_some();
     let (major, minor, patch) = (part(major)?, part_or_any(minor)?, part_or_any(patch)?);
     Some((filled(major, minor, patch), is_three))
@@ -197,8 +198,8 @@ pub(crate) fn read_version(alloc: Global, word: &str) -> Result<(Numbers, Prerel
     ensures small { IfOk result (λ v. spec.AreSmall v.0) }
     ensures err { IfErr result (MayRefuse (spec.version word.now)) }
 {
-    let (front, build) = cut(without(word, 'v'), '+');
-    let (core, pre) = cut(front, '-');
+    let (front, build) = cut(without(word, VERSION_MARK), PLUS);
+    let (core, pre) = cut(front, HYPHEN);
     let Some((numbers, is_full)) = numbers(core) else {
         return Err(RangeErr::NotARange);
     };

@@ -1,3 +1,2 @@
 pub mod CommandLists
-pub mod PairLists
 pub mod Reading

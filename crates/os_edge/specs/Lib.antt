@@ -1,4 +1,3 @@
 pub mod Paths
-pub mod Shell
 pub mod Arguments
 pub mod World

@@ -1,21 +1,12 @@
 -- What runs in the system's world.
-use Rattle.std.specs.Prelude.{◌≡◌, ℕ, List, [], ◌∷◌, ◌++◌, length, None, false}
+use Rattle.std.specs.Prelude.{ℕ, List, [], length, None, false}
 use Rattle.os_edge.specs.declared.folders.TheConstants.{REACH}
 use Rattle.tree_dev.specs.Tree.{TreeState}
 use Rattle.spawn_dev.specs.declared.command.Command.{Command}
 use Rattle.spawn_dev.specs.Effects.{no_effect}
 use Rattle.spawn_dev.specs.Running.{command_at}
 use Rattle.spawn_dev.specs.Spawn.{Runs}
-
-abbrev pub itself : Command → Command
-itself command = command
-
--- the command stood in the list, and without it the list is this, in order
-pub record IsTakenOut (command : Command) (before after : List Command) : Type 0 where
-  pub front : List Command
-  pub back : List Command
-  pub was : before ≡ front ++ command ∷ back
-  pub left : after ≡ front ++ back
+use Rattle.os_children.specs.Taking.{itself}
 
 -- these commands run, oldest first, and nothing else is told
 abbrev pub runs_of : List Command → ℕ → Runs (Unit {0})

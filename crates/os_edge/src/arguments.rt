@@ -2,7 +2,7 @@
 ghost use Rattle.std.specs.Prelude.{◌≡◌, IfOk};
 ghost use Rattle.os_edge.specs.Arguments.{OnlyMemory, pair_of};
 
-use rel_path::{PathErr, Text};
+use rel_path::Text;
 use std::alloc::{AllocError, AllocFailed, Global};
 use std::env;
 use std::env::{Env, FillError};
@@ -34,17 +34,6 @@ impl<T: Drop> From<AllocFailed<T>> for WordErr {
     ghost from_gives = { λ _ e. e ≡ OutOfMemory };
 
     fn from(_error: AllocFailed<T>) -> WordErr {
-        WordErr::OutOfMemory
-    }
-}
-
-/// For calls of `rel_path` that take memory alone.
-impl From<PathErr> for WordErr {
-    ghost use Rattle.os_edge.specs.declared.arguments.WordErr.TheVariants.{OutOfMemory};
-
-    ghost from_gives = { λ _ e. e ≡ OutOfMemory };
-
-    fn from(_error: PathErr) -> WordErr {
         WordErr::OutOfMemory
     }
 }

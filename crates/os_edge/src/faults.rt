@@ -1,6 +1,5 @@
 // What the system answers, as a device answers it.
 ghost use Rattle.std.specs.Prelude.{◌≡◌, Ok, Some, None, IfOk, IsErr, OnErr};
-ghost use Rattle.std.specs.IoError.{error_kind};
 ghost use Rattle.tree_dev.specs.Cause.{HasCause};
 
 use std::io;
@@ -21,13 +20,6 @@ pub fn counted<T>(faults: &mut u64, outcome: io::Result<T>) -> Result<T, DevErr>
             Err(DevErr::Failed)
         }
     }
-}
-
-/// The error of a call that only takes memory.
-pub fn out_of_memory() -> io::Error
-    ensures { error_kind result ≡ ErrorKind.OutOfMemory }
-{
-    io::Error::from(ErrorKind::OutOfMemory)
 }
 
 /// What the call found, or nothing where it found no such path.

@@ -6,7 +6,8 @@ ghost use Rattle.std.specs.List.Sorted.{IsStrictlySortedBy};
 ghost use Rattle.tree_dev.specs.Names.{IsProper, entry_cmp};
 ghost use Rattle.os_edge.specs.Paths.{IsNamed, system_path_of};
 
-use crate::faults::{out_of_memory, present};
+use crate::faults::present;
+use os_children::out_of_memory;
 use rel_path::{RelPath, Text, is_component};
 use std::alloc::Global;
 use std::fs::DirEntry;

@@ -16,7 +16,8 @@ use tree_dev::count_fault;
 
 const FOLDER: &str = ".turbo";
 
-const PATH: &str = ".turbo/store.turb";
+/// The path of the store, from the current folder.
+pub const STORE_PATH: &str = ".turbo/store.turb";
 
 // From here on a store is worth a word.
 const LARGE: u64 = 1 << 30;
@@ -52,7 +53,7 @@ fn opened<'a, R: Files<File = File> + Eprint + AllocGlobal>(
 ) -> io::Result<&'a mut Backing> {
     match backing {
         Some(backing) => Ok(backing),
-        None => Ok(backing.insert(told_of(rt, PATH, "opened", backing_of(rt))?)),
+        None => Ok(backing.insert(told_of(rt, STORE_PATH, "opened", backing_of(rt))?)),
     }
 }
 
@@ -63,13 +64,13 @@ fn backing_of<R: Files<File = File> + Eprint + AllocGlobal>(rt: &R) -> io::Resul
         warn_of_size(rt, &file)?;
         return Ok(Backing::File(file));
     }
-    let _ = eprintln!(rt; "turbo: another run holds {PATH}, so this one keeps no results");
+    let _ = eprintln!(rt; "turbo: another run holds {STORE_PATH}, so this one keeps no results");
     Ok(Backing::Memory(Vec::new(rt.alloc())))
 }
 
 fn warn_of_size(rt: &impl Eprint, file: &File) -> io::Result<()> {
     if file.metadata()?.len() > LARGE {
-        let _ = eprintln!(rt; "turbo: {PATH} has passed a gibibyte, and may be deleted");
+        let _ = eprintln!(rt; "turbo: {STORE_PATH} has passed a gibibyte, and may be deleted");
     }
     Ok(())
 }
@@ -91,7 +92,7 @@ fn options() -> OpenOptions
 // A link is followed. What is no regular file is an error: a disk would be written over.
 fn open<R: Files<File = File>>(rt: &R) -> io::Result<File> {
     fs::create_dir_all(rt, FOLDER)?;
-    let file = options().open(rt, PATH)?;
+    let file = options().open(rt, STORE_PATH)?;
     if !file.metadata()?.is_file() {
         return Err(io::Error::from(ErrorKind::InvalidInput));
     }
@@ -149,14 +150,19 @@ impl<R: Files<File = File> + Eprint + AllocGlobal> StoreDevice for OsStore<R> {
     fn len(&mut self) -> Result<u64, StoreErr> {
         let rt = &self.rt;
         let store = opened(rt, &mut self.backing);
-        let outcome = store.and_then(|store| told_of(rt, PATH, "measured", store.len()));
+        let outcome = store.and_then(|store| told_of(rt, STORE_PATH, "measured", store.len()));
         counted(&mut self.faults, outcome)
     }
 
     fn read_at(&mut self, at: u64, buf: &mut [u8]) -> Result<(), StoreErr> {
         let rt = &self.rt;
         let store = opened(rt, &mut self.backing);
-        let outcome = store.and_then(|store| told_of(rt, PATH, "read", store.read_at(at, buf)));
+        let outcome = store.and_then(|store| told_of(
+            rt,
+            STORE_PATH,
+            "read",
+            store.read_at(at, buf),
+        ));
         counted(&mut self.faults, outcome)
     }
 
@@ -165,7 +171,7 @@ impl<R: Files<File = File> + Eprint + AllocGlobal> StoreDevice for OsStore<R> {
         let store = opened(rt, &mut self.backing);
         let outcome = store.and_then(|store| told_of(
             rt,
-            PATH,
+            STORE_PATH,
             "written",
             store.write_at(at, bytes),
         ));
@@ -175,7 +181,7 @@ impl<R: Files<File = File> + Eprint + AllocGlobal> StoreDevice for OsStore<R> {
     fn sync(&mut self) -> Result<(), StoreErr> {
         let rt = &self.rt;
         let store = opened(rt, &mut self.backing);
-        let outcome = store.and_then(|store| told_of(rt, PATH, "synced", store.sync()));
+        let outcome = store.and_then(|store| told_of(rt, STORE_PATH, "synced", store.sync()));
         counted(&mut self.faults, outcome)
     }
 }

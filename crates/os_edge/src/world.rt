@@ -5,10 +5,10 @@ ghost use Rattle.spawn_dev.specs.EffectLaws.{no_effect_behaves};
 ghost use Rattle.spawn_dev.specs.Spawn.{Runs};
 ghost use Rattle.os_edge.specs.World.{runs_of, state_with};
 
-use crate::children::Children;
 use crate::faults::counted;
-use crate::reports::{told, told_of_end};
+use crate::reports::told;
 use crate::{files, folders};
+use os_children::{Children, told_of_end};
 use rel_path::RelPath;
 use spawn_dev::{Command, Ended, Spawner};
 use std::alloc::Global;

@@ -1,14 +1,10 @@
 -- What the calls of a page answer.
-use Rattle.std.specs.Prelude.{◌≡◌, ℕ, Bool, true, false, List, ◌++◌, take, Result, Ok, Err, IfErr}
+use Rattle.std.specs.Prelude.{◌≡◌, ℕ, Bool, true, false, List, ◌++◌, take, Result, Ok, Err}
 use Rattle.rel_path.specs.Causes.{Counts}
 use Rattle.tree_dev.specs.declared.error.DevErr.{DevErr}
 use Rattle.tree_dev.specs.declared.error.DevErr.TheVariants as device
 use Rattle.page.specs.declared.error.PageErr.{PageErr}
 use Rattle.page.specs.declared.error.PageErr.TheVariants.{SinkFault, OutOfMemory}
-
--- no error but want of memory, which may come at any time
-abbrev pub OnlyMemory : {T : Type 0} → Result T PageErr → Type 0
-OnlyMemory result = IfErr result (λ e. e ≡ OutOfMemory)
 
 abbrev pub as_page_err : DevErr → PageErr
 as_page_err device.Failed = SinkFault

@@ -3,5 +3,3 @@ pub mod Tasks
 pub mod Blocks
 pub mod Summaries
 pub mod DryBlocks
-pub mod Faults
-pub mod Refusals

@@ -1,6 +1,5 @@
 // The lines of a task that was looked up or ran.
-ghost use Rattle.std.specs.Prelude.{◌≡◌, ◌++◌, ◌∷◌, ◌<◌, length, position, IfOk, OnOk, string_bytes};
-ghost use Rattle.page.specs.Answers.{OnlyMemory};
+ghost use Rattle.std.specs.Prelude.{◌≡◌, ◌++◌, ◌∷◌, ◌<◌, length, position, IfOk, OnOk, string_bytes, IsOkUnless};
 ghost use Rattle.page.specs.Blocks.{lines_shown, is_failure, front_of, mark_words, mark_line, is_newline, lines_of, log_lines, failure_line, note_line, block_text};
 
 use crate::PageErr;
@@ -61,7 +60,7 @@ fn lines_shown(mode: LogMode, mark: Mark, failed: bool) -> Shown
 
 fn front(alloc: Global, task: &TaskId) -> Result<String, PageErr>
     ensures front { IfOk result (λ front. string_bytes front ≡ front_of task.now) }
-    ensures memory { OnlyMemory result }
+    ensures memory { IsOkUnless result PageErr.OutOfMemory }
 {
     let package = task.package.as_str();
     let task = task.task.as_str();
@@ -80,7 +79,7 @@ fn mark_words(mark: Mark) -> &'static str
 
 fn mark_line(alloc: Global, front: &str, mark: Mark, print: &Text) -> Result<String, PageErr>
     ensures line { IfOk result (λ line. string_bytes line ≡ mark_line front.now mark print.now) }
-    ensures memory { OnlyMemory result }
+    ensures memory { IsOkUnless result PageErr.OutOfMemory }
 {
     let words = mark_words(mark);
     let print = print.as_str();
@@ -108,7 +107,7 @@ fn cut_line(log: &[u8]) -> (&[u8], &[u8])
 // Adds the log, each line behind the front.
 fn push_log(text: &mut Vec<u8>, front: &str, log: &[u8]) -> Result<(), PageErr>
     ensures text { OnOk result (text.new.items ≡ text.old.items ++ log_lines front.now log.now) }
-    ensures memory { OnlyMemory result }
+    ensures memory { IsOkUnless result PageErr.OutOfMemory }
 {
     let mut rest = log;
     while !rest.is_empty() {
@@ -123,7 +122,7 @@ fn push_log(text: &mut Vec<u8>, front: &str, log: &[u8]) -> Result<(), PageErr>
 
 fn failure_line(alloc: Global, front: &str, status: u8) -> Result<String, PageErr>
     ensures line { IfOk result (λ line. string_bytes line ≡ failure_line front.now status) }
-    ensures memory { OnlyMemory result }
+    ensures memory { IsOkUnless result PageErr.OutOfMemory }
 {
     if status == 0 {
         return Ok(String::new(alloc));
@@ -133,7 +132,7 @@ fn failure_line(alloc: Global, front: &str, status: u8) -> Result<String, PageEr
 
 fn note_line(alloc: Global, front: &str, note: &Note) -> Result<String, PageErr>
     ensures line { IfOk result (λ line. string_bytes line ≡ note_line front.now note.now) }
-    ensures memory { OnlyMemory result }
+    ensures memory { IsOkUnless result PageErr.OutOfMemory }
 {
     match note {
         Note::Stored => Ok(String::new(alloc)),
@@ -154,7 +153,7 @@ fn note_line(alloc: Global, front: &str, note: &Note) -> Result<String, PageErr>
 // The lines behind the log.
 fn end_lines(alloc: Global, front: &str, status: u8, note: &Note) -> Result<String, PageErr>
     ensures lines { IfOk result (λ lines. string_bytes lines ≡ failure_line front.now status ++ note_line front.now note.now) }
-    ensures memory { OnlyMemory result }
+    ensures memory { IsOkUnless result PageErr.OutOfMemory }
 {
     let mut lines = failure_line(alloc, front, status)?;
     let note = note_line(alloc, front, note)?;
@@ -176,7 +175,7 @@ pub fn block(
     mode: LogMode,
 ) -> Result<Bytes, PageErr>
     ensures text { IfOk result (λ bytes. bytes ≡ block_text task.now mark print.now log.now status note.now mode) }
-    ensures memory { OnlyMemory result }
+    ensures memory { IsOkUnless result PageErr.OutOfMemory }
 {
     let front = front(alloc, task)?;
     let front = front.as_str();

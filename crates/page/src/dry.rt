@@ -1,7 +1,6 @@
 // What a dry run says of a task.
-ghost use Rattle.std.specs.Prelude.{◌≡◌, IfOk, string_bytes};
+ghost use Rattle.std.specs.Prelude.{◌≡◌, IfOk, string_bytes, IsOkUnless};
 ghost use Rattle.std.specs.Option.{option_map};
-ghost use Rattle.page.specs.Answers.{OnlyMemory};
 ghost use Rattle.page.specs.DryBlocks.{held_word, script_text, key_line, dry_block_text};
 
 use crate::PageErr;
@@ -45,7 +44,7 @@ fn script_text<'a>(script: Option<&'a Text>) -> &'a str
 
 fn key_line(alloc: Global, key: &str, value: &str) -> Result<String, PageErr>
     ensures line { IfOk result (λ line. string_bytes line ≡ key_line key.now value.now) }
-    ensures memory { OnlyMemory result }
+    ensures memory { IsOkUnless result PageErr.OutOfMemory }
 {
     Ok(format!(in alloc; "  {key} = {value}\n")?)
 }
@@ -61,7 +60,7 @@ pub fn dry_block(
     deps: &TaskIds,
 ) -> Result<Bytes, PageErr>
     ensures text { IfOk result (λ bytes. bytes ≡ dry_block_text task.now print.now held (option_map (λ text. text.now) script.entry) deps.now) }
-    ensures memory { OnlyMemory result }
+    ensures memory { IsOkUnless result PageErr.OutOfMemory }
 {
     let task = task_name(alloc, task)?;
     let task = task.as_str();

@@ -3,7 +3,6 @@ ghost use Rattle.std.specs.Prelude.{◌≡◌};
 ghost use Rattle.page.specs.Answers.{as_page_err};
 ghost use Rattle.page.specs.declared.error.PageErr.TheVariants.{OutOfMemory};
 
-use rel_path::PathErr;
 use std::alloc::{AllocError, AllocFailed};
 use thiserror::Error;
 use tree_dev::DevErr;
@@ -30,15 +29,6 @@ impl<T: Drop> From<AllocFailed<T>> for PageErr {
     ghost from_gives = { λ _ e. e ≡ OutOfMemory };
 
     fn from(_error: AllocFailed<T>) -> PageErr {
-        PageErr::OutOfMemory
-    }
-}
-
-// For calls whose only error is want of memory.
-impl From<PathErr> for PageErr {
-    ghost from_gives = { λ _ e. e ≡ OutOfMemory };
-
-    fn from(_error: PathErr) -> PageErr {
         PageErr::OutOfMemory
     }
 }

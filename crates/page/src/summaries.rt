@@ -1,6 +1,5 @@
 // How a run went.
-ghost use Rattle.std.specs.Prelude.{◌≡◌, IfOk, string_bytes};
-ghost use Rattle.page.specs.Answers.{OnlyMemory};
+ghost use Rattle.std.specs.Prelude.{◌≡◌, IfOk, string_bytes, IsOkUnless};
 ghost use Rattle.page.specs.Summaries.{tasks_line, cached_line, failed_line, summary_text};
 
 use crate::PageErr;
@@ -11,21 +10,21 @@ use turbo_config::{TaskId, TaskIds};
 
 fn tasks_line(alloc: Global, good: u32, total: u32) -> Result<String, PageErr>
     ensures line { IfOk result (λ line. string_bytes line ≡ tasks_line good total) }
-    ensures memory { OnlyMemory result }
+    ensures memory { IsOkUnless result PageErr.OutOfMemory }
 {
     Ok(format!(in alloc; " Tasks:    {good} successful, {total} total\n")?)
 }
 
 fn cached_line(alloc: Global, cached: u32, total: u32) -> Result<String, PageErr>
     ensures line { IfOk result (λ line. string_bytes line ≡ cached_line cached total) }
-    ensures memory { OnlyMemory result }
+    ensures memory { IsOkUnless result PageErr.OutOfMemory }
 {
     Ok(format!(in alloc; "Cached:    {cached} cached, {total} total\n")?)
 }
 
 fn failed_line(alloc: Global, failed: &[TaskId]) -> Result<String, PageErr>
     ensures line { IfOk result (λ line. string_bytes line ≡ failed_line failed.now) }
-    ensures memory { OnlyMemory result }
+    ensures memory { IsOkUnless result PageErr.OutOfMemory }
 {
     if failed.is_empty() {
         return Ok(String::new(alloc));
@@ -45,7 +44,7 @@ pub fn summary(
     failed: &TaskIds,
 ) -> Result<Bytes, PageErr>
     ensures text { IfOk result (λ bytes. bytes ≡ summary_text good cached total failed.now) }
-    ensures memory { OnlyMemory result }
+    ensures memory { IsOkUnless result PageErr.OutOfMemory }
 {
     let tasks = tasks_line(alloc, good, total)?;
     let tasks = tasks.as_str();

@@ -1,16 +1,13 @@
 // Tasks by package and name.
 ghost use Rattle.std.specs.Prelude.{◌≡◌, IfOk, string_bytes};
-ghost use Rattle.page.specs.Answers.{OnlyMemory};
 ghost use Rattle.page.specs.Tasks.{task_name, joined};
 
-use crate::PageErr;
-use std::alloc::Global;
+use std::alloc::{AllocError, Global};
 use turbo_config::TaskId;
 
 /// `package#task`
-pub(crate) fn task_name(alloc: Global, task: &TaskId) -> Result<String, PageErr>
+pub fn task_name(alloc: Global, task: &TaskId) -> Result<String, AllocError>
     ensures name { IfOk result (λ name. string_bytes name ≡ task_name task.now) }
-    ensures memory { OnlyMemory result }
 {
     let package = task.package.as_str();
     let task = task.task.as_str();
@@ -18,9 +15,8 @@ pub(crate) fn task_name(alloc: Global, task: &TaskId) -> Result<String, PageErr>
 }
 
 /// The tasks in their order, with this text between each two.
-pub(crate) fn joined(alloc: Global, between: &str, tasks: &[TaskId]) -> Result<String, PageErr>
+pub fn joined(alloc: Global, between: &str, tasks: &[TaskId]) -> Result<String, AllocError>
     ensures text { IfOk result (λ text. string_bytes text ≡ joined between.now tasks.now) }
-    ensures memory { OnlyMemory result }
 {
     let mut text = String::new(alloc);
     let mut rest = tasks;

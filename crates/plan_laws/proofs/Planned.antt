@@ -24,7 +24,7 @@ use Rattle.run_laws.specs.Ancestors.{part_at}
 use Rattle.collect.specs.declared.error.CollectErr.{CollectErr}
 use Rattle.collect.specs.declared.error.CollectErr.TheVariants.{Missing, TooLarge, TooMuch, Failed, OutOfMemory}
 use Rattle.collect.specs.declared.wanted.Wanted.{Wanted}
-use Rattle.page.specs.declared.refusal.Refusal.TheVariants as refusal
+use Rattle.refusals.specs.declared.refusal.Refusal.TheVariants as refusal
 use Rattle.run_plan.specs.declared.plan.Plan.{Plan}
 use Rattle.run_plan.specs.Plans.{given_at}
 use Rattle.repository.specs.Reading.{Contents}

@@ -7,7 +7,7 @@ use Rattle.tree_walk.specs.declared.error.WalkErr.{WalkErr}
 use Rattle.tree_walk.specs.declared.error.WalkErr.TheVariants.{TooDeep, TooMany, Failed, OutOfMemory}
 use Rattle.workspaces.specs.declared.error.SpaceErr.{SpaceErr}
 use Rattle.workspaces.specs.Space.{Space, space_of}
-use Rattle.page.specs.declared.refusal.Refusal.{Refusal}
+use Rattle.refusals.specs.declared.refusal.Refusal.{Refusal}
 use Rattle.repository.specs.Steps.{After, IsRefusal, walk_refusal, space_refusal}
 use Rattle.repository.specs.Reading.{root_manifest, lockfile, setup_in, AfterWalkOf, AfterWalk, AfterSpace, Means}
 use Rattle.plan_laws.specs.Laws.{AtMostOne}

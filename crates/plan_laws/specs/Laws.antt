@@ -2,7 +2,7 @@
 use Rattle.std.specs.Prelude.{◌≡◌, ℕ, List, Result}
 use Rattle.rel_path.specs.Files.{FileMap}
 use Rattle.cli_words.specs.declared.order.RunOrder.{RunOrder}
-use Rattle.page.specs.declared.refusal.Refusal.{Refusal}
+use Rattle.refusals.specs.declared.refusal.Refusal.{Refusal}
 use Rattle.run_plan.specs.declared.plan.Plan.{Plan}
 use Rattle.repository.specs.Steps.{After}
 use Rattle.repository.specs.Reading.{Contents, Means}

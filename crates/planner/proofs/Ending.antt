@@ -17,8 +17,8 @@ use Rattle.collect.specs.declared.error.CollectErr.{CollectErr}
 use Rattle.collect.specs.declared.error.CollectErr.TheVariants as collected
 use Rattle.collect.specs.declared.wanted.Wanted.{Wanted}
 use Rattle.collect.specs.Refusals.{Collects}
-use Rattle.page.specs.declared.refusal.Refusal.{Refusal}
-use Rattle.page.specs.declared.refusal.Refusal.TheVariants as refusal
+use Rattle.refusals.specs.declared.refusal.Refusal.{Refusal}
+use Rattle.refusals.specs.declared.refusal.Refusal.TheVariants as refusal
 use Rattle.repository.specs.Reading.{Contents}
 use Rattle.repository.specs.Steps.{IsRefusal}
 use Rattle.planner.specs.Refusals.{filter_refusal, graph_refusal, collect_refusal}

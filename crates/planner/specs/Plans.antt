@@ -25,9 +25,10 @@ use Rattle.listing.specs.declared.part.Listing.{Listing}
 use Rattle.collect.specs.declared.error.CollectErr.{CollectErr}
 use Rattle.collect.specs.declared.wanted.Wanted.{Wanted}
 use Rattle.collect.specs.Listings.{ArePaired}
-use Rattle.collect.specs.Refusals.{Collects, file_limit}
-use Rattle.page.specs.declared.refusal.Refusal.{Refusal}
-use Rattle.page.specs.declared.refusal.Refusal.TheVariants as refusal
+use Rattle.collect.specs.Refusals.{Collects}
+use Rattle.rel_path.specs.Limits.{file_limit}
+use Rattle.refusals.specs.declared.refusal.Refusal.{Refusal}
+use Rattle.refusals.specs.declared.refusal.Refusal.TheVariants as refusal
 use Rattle.run_laws.specs.Ancestors.{part_at}
 use Rattle.run_plan.specs.declared.plan.Plan.{Plan}
 use Rattle.run_plan.specs.Plans.{given_at}

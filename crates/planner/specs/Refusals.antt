@@ -1,7 +1,7 @@
 -- Why words and a repository give no plan.
 use Rattle.std.specs.Prelude.{Option, Some, None}
-use Rattle.page.specs.declared.refusal.Refusal.{Refusal}
-use Rattle.page.specs.declared.refusal.Refusal.TheVariants as refusal
+use Rattle.refusals.specs.declared.refusal.Refusal.{Refusal}
+use Rattle.refusals.specs.declared.refusal.Refusal.TheVariants as refusal
 use Rattle.filters.specs.declared.error.FilterErr.{FilterErr}
 use Rattle.filters.specs.declared.error.FilterErr.TheVariants as filter
 use Rattle.task_graph.specs.declared.error.GraphErr.{GraphErr}

@@ -16,6 +16,7 @@ use Rattle.turbo_config.specs.declared.entry.LogMode.TheVariants as logs
 abbrev pub mode_of : KeepOn → Mode
 mode_of keep.Never = mode.Never
 mode_of keep.DependenciesSuccessful = mode.DependenciesSuccessful
+mode_of keep.Always = mode.Always
 
 abbrev pub log_mode_of : LogWord → LogMode
 log_mode_of word.Full = logs.Full

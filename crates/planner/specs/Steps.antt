@@ -17,7 +17,7 @@ use Rattle.collect.specs.declared.wanted.Wanted.{Wanted}
 use Rattle.collect.specs.declared.error.CollectErr.{CollectErr}
 use Rattle.collect.specs.declared.error.CollectErr.TheVariants as collected
 use Rattle.collect.specs.Tasks.{IsDefined}
-use Rattle.page.specs.declared.refusal.Refusal.{Refusal}
+use Rattle.refusals.specs.declared.refusal.Refusal.{Refusal}
 use Rattle.repository.specs.Reading.{Contents}
 use Rattle.planner.specs.declared.error.PlannerErr.{PlannerErr}
 use Rattle.planner.specs.declared.error.PlannerErr.TheVariants.{Refused, Failed, OutOfMemory}

@@ -19,7 +19,7 @@ ghost use Rattle.planner.specs.Steps.{AreInOrder, EndsOrFails, NoMore, collect_e
 use crate::PlannerErr;
 use collect::{CollectErr, Wanted, collect};
 use listing::Listing;
-use page::Refusal;
+use refusals::Refusal;
 use rel_path::Text;
 use repository::Repository;
 use std::alloc::Global;

@@ -3,8 +3,7 @@ ghost use Rattle.std.specs.Prelude.{◌≡◌};
 ghost use Rattle.planner.specs.declared.error.PlannerErr.TheVariants.{OutOfMemory};
 
 use env_select::EnvErr;
-use page::Refusal;
-use rel_path::PathErr;
+use refusals::Refusal;
 use run_plan::PlanErr;
 use std::alloc::{AllocError, AllocFailed};
 use thiserror::Error;
@@ -35,15 +34,6 @@ impl<T: Drop> From<AllocFailed<T>> for PlannerErr {
     ghost from_gives = { λ _ e. e ≡ OutOfMemory };
 
     fn from(_error: AllocFailed<T>) -> PlannerErr {
-        PlannerErr::OutOfMemory
-    }
-}
-
-// For calls whose only error is want of memory.
-impl From<PathErr> for PlannerErr {
-    ghost from_gives = { λ _ e. e ≡ OutOfMemory };
-
-    fn from(_error: PathErr) -> PlannerErr {
         PlannerErr::OutOfMemory
     }
 }

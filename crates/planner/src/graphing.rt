@@ -11,7 +11,7 @@ ghost use Rattle.planner.specs.Plans.{AfterGraph, AfterOrder, AfterPersistent};
 ghost use Rattle.planner.specs.Steps.{Ends, NoMore, error_of};
 
 use crate::PlannerErr;
-use page::Refusal;
+use refusals::Refusal;
 use rel_path::{Places, Texts};
 use std::alloc::Global;
 use task_graph::{Graph, GraphErr, PlanList, expand};

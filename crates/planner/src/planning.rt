@@ -1,6 +1,7 @@
 // The plan of a run.
 ghost use Rattle.std.specs.Prelude.{◌≡◌, ◌<◌, ◌≤◌, true, false, length, IfOk};
 ghost use Rattle.std.specs.List.{AllByRecursion};
+ghost use Rattle.rel_path.specs.Limits.{width_limit};
 ghost use Rattle.rel_path.specs.Paths.{Path};
 ghost use Rattle.tree_dev.specs.Tree.{Looks};
 ghost use Rattle.tree_walk.specs.Walked.{IsWalk};
@@ -22,15 +23,13 @@ use cli_words::RunOrder;
 use env_select::EnvList;
 use listing::Listing;
 use rel_path::Text;
+use rel_path::limits::MAX_FILE_BYTES;
 use repository::Repository;
 use run_plan::{PairLists, Plan, TaskDefs};
 use std::alloc::Global;
 use task_graph::PlanList;
 use tree_dev::Tree;
 use turbo_config::Config;
-
-/// The most bytes of a file that is put into the cache.
-const FILE_LIMIT: u64 = 16 * 1024 * 1024;
 
 /// The plan of these tasks, whose parts the listing has.
 fn plan_of(
@@ -67,7 +66,7 @@ fn plan_of(
         mode: mode_of(order.keep_on),
         force: order.force,
         logs: logs_of(order.logs),
-        limit: FILE_LIMIT,
+        limit: MAX_FILE_BYTES,
     })
 }
 
@@ -89,7 +88,7 @@ pub fn plan_run<T: Tree>(
     requires none { (path : Path) → (T.state tree.old).held path ≡ false }
     requires walk { IsWalk repository.now.walk }
     requires wide { 0 < order.now.width }
-    requires narrow { order.now.width ≤ 1024 }
+    requires narrow { order.now.width ≤ width_limit }
     ensures looks { Looks (T.state tree.old) (T.state tree.new) }
     ensures plans { T.tells → Answers (contents_of repository.now) order.now env.now (T.state tree.old).files result }
     ensures valid { IfOk result IsValidPlan }

@@ -7,7 +7,7 @@ ghost use Rattle.planner.specs.Steps.{Ends, NoMore, error_of};
 
 use crate::PlannerErr;
 use filters::{FilterErr, selected};
-use page::Refusal;
+use refusals::Refusal;
 use rel_path::{Places, Texts};
 use std::alloc::Global;
 use workspaces::Packages;

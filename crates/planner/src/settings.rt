@@ -15,6 +15,7 @@ pub(crate) fn mode_of(keep_on: KeepOn) -> Mode
     match keep_on {
         KeepOn::Never => Mode::Never,
         KeepOn::DependenciesSuccessful => Mode::DependenciesSuccessful,
+        KeepOn::Always => Mode::Always,
     }
 }
 

@@ -1,12 +1,13 @@
 // What is said on standard error beside the page.
 use cli_words::WordsErr;
+use os_edge::STORE_PATH;
 use rel_path::Text;
-use turbo_app::{Answer, Refusal};
+use turbo_app::{
+    ALWAYS_FORM, Answer, CACHE_FORM, COMPACT_FORM, PRUNE_FORM, Refusal, SAMPLE_FORM, SHARED_FORM,
+};
 
-const STORE_PATH: &str = ".turbo/store.turb";
-
-/// Says what the page leaves out: that memory was wanting, what to do about a store that is not read, and which word
-/// was refused. Whether it could be printed is not answered.
+/// Says what the page leaves out: that memory was wanting, what to do about a store that is not read, which word was
+/// refused, and what is not built. Whether it could be printed is not answered.
 pub(crate) fn advise<R: Eprint>(rt: &R, words: &[Text], answer: &Answer) {
     match answer {
         Answer::OutOfMemory => say_out_of_memory(rt),
@@ -16,12 +17,27 @@ pub(crate) fn advise<R: Eprint>(rt: &R, words: &[Text], answer: &Answer) {
             );
         }
         Answer::Refused(Refusal::Words(fault)) => show_word(rt, words, *fault),
+        Answer::Refused(Refusal::NotBuilt { form }) => say_not_built(rt, *form),
         _ => {}
     }
 }
 
 pub(crate) fn say_out_of_memory<R: Eprint>(rt: &R) {
     let _ = eprintln!(rt; "turbo: out of memory");
+}
+
+// The command or option that was refused by its number.
+fn say_not_built<R: Eprint>(rt: &R, form: u8) {
+    let what = match form {
+        PRUNE_FORM => "prune",
+        ALWAYS_FORM => "--continue=always",
+        CACHE_FORM => "--cache with any value but local:rw",
+        SHARED_FORM => "--shared",
+        SAMPLE_FORM => "sample",
+        COMPACT_FORM => "compact",
+        _ => return,
+    };
+    let _ = eprintln!(rt; "turbo: {what} is not built yet");
 }
 
 // The word that was refused by its place.

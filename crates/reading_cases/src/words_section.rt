@@ -1,7 +1,7 @@
 // Words of the command line, and the order that they are.
 use anyhow::{Result, bail};
 use case_files::{answers, inputs};
-use cli_words::{EnvWord, KeepOn, LogWord, Order, RunOrder, WordsErr};
+use cli_words::{Access, EnvWord, KeepOn, LogWord, Order, RunOrder, WordsErr};
 use rel_path::Texts;
 use serde_json::{Map, Value, json, put};
 use std::alloc::Global;
@@ -9,12 +9,20 @@ use std::alloc::Global;
 // How many commands run at once where no option says it.
 const WIDTH: u32 = 10;
 
+// Which stores a run reads and puts into where no option says it.
+const LOCAL_ALONE: Access = Access {
+    local_reads: true,
+    local_puts: true,
+    second_reads: false,
+    second_puts: false,
+};
+
 fn refusal(alloc: Global, error: WordsErr) -> Result<Value> {
     match error {
-        WordsErr::Unknown { at } => answers::error_at(alloc, "Unknown", u64::from(at)),
+        WordsErr::Unknown { at } => answers::error_at(alloc, "Unknown", at),
         WordsErr::NoTask => answers::error(alloc, "NoTask"),
-        WordsErr::BadValue { at } => answers::error_at(alloc, "BadValue", u64::from(at)),
-        WordsErr::Twice { at } => answers::error_at(alloc, "Twice", u64::from(at)),
+        WordsErr::BadValue { at } => answers::error_at(alloc, "BadValue", at),
+        WordsErr::Twice { at } => answers::error_at(alloc, "Twice", at),
         WordsErr::OutOfMemory => bail!("out of memory"),
     }
 }
@@ -36,6 +44,37 @@ fn env_word(word: EnvWord) -> &'static str {
     }
 }
 
+fn continue_word(keep_on: KeepOn) -> &'static str {
+    match keep_on {
+        KeepOn::Never => "never",
+        KeepOn::DependenciesSuccessful => "dependencies-successful",
+        KeepOn::Always => "always",
+    }
+}
+
+fn rights(reads: bool, puts: bool) -> &'static str {
+    match (reads, puts) {
+        (true, true) => "rw",
+        (true, false) => "r",
+        (false, true) => "w",
+        (false, false) => "",
+    }
+}
+
+fn put_stores(alloc: Global, fields: &mut Map<String, Value>, order: &RunOrder) -> Result<()> {
+    let access = order.access;
+    if access != LOCAL_ALONE {
+        let local = rights(access.local_reads, access.local_puts);
+        let second = rights(access.second_reads, access.second_puts);
+        let text = format!(in alloc; "local:{local},remote:{second}")?;
+        put(fields, alloc, "cache", Value::String(text))?;
+    }
+    if order.shared {
+        put(fields, alloc, "shared", Value::Bool(true))?;
+    }
+    Ok(())
+}
+
 fn put_texts(
     alloc: Global,
     fields: &mut Map<String, Value>,
@@ -54,8 +93,8 @@ fn put_texts(
 }
 
 fn put_choices(alloc: Global, fields: &mut Map<String, Value>, order: &RunOrder) -> Result<()> {
-    if order.keep_on == KeepOn::DependenciesSuccessful {
-        let word = answers::text(alloc, "dependencies-successful")?;
+    if order.keep_on != KeepOn::Never {
+        let word = answers::text(alloc, continue_word(order.keep_on))?;
         put(fields, alloc, "continue", word)?;
     }
     if let Some(logs) = order.logs {
@@ -88,7 +127,16 @@ fn run(alloc: Global, order: &RunOrder) -> Result<Value> {
     put_texts(alloc, &mut fields, "args", &order.args)?;
     put_flags(alloc, &mut fields, order)?;
     put_choices(alloc, &mut fields, order)?;
+    put_stores(alloc, &mut fields, order)?;
     Ok(Value::Object(fields))
+}
+
+fn prune(alloc: Global, targets: &Texts, docker: bool) -> Result<Value> {
+    let targets = answers::texts(alloc, targets.as_slice())?;
+    if docker {
+        return Ok(json!(in alloc; {"prune": targets, "docker": true})?);
+    }
+    Ok(json!(in alloc; {"prune": targets})?)
 }
 
 fn read(alloc: Global, case: &Value) -> Result<Result<Order, WordsErr>> {
@@ -99,10 +147,9 @@ fn read(alloc: Global, case: &Value) -> Result<Result<Order, WordsErr>> {
 fn order(alloc: Global, case: &Value) -> Result<Value> {
     match read(alloc, case)? {
         Ok(Order::Help) => answers::text(alloc, "help"),
-        Ok(Order::Prune { targets }) => {
-            let targets = answers::texts(alloc, targets.as_slice())?;
-            Ok(json!(in alloc; {"prune": targets})?)
-        }
+        Ok(Order::Prune { targets, docker }) => prune(alloc, &targets, docker),
+        Ok(Order::Sample { size }) => Ok(json!(in alloc; {"sample": size})?),
+        Ok(Order::Compact { keep }) => Ok(json!(in alloc; {"compact": keep})?),
         Ok(Order::Run(order)) => run(alloc, &order),
         Err(error) => refusal(alloc, error),
     }

@@ -6,3 +6,6 @@ pub mod Going
 pub mod Places
 pub mod Appending
 pub mod Opening
+pub mod Records
+pub mod Batch
+pub mod Clearing

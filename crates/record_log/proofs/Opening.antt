@@ -1,12 +1,16 @@
 -- Opening a file.
-use Rattle.std.proofs.Common.{◌≡◌, inl, inr, ⊎_elim, ℕ, ◌≤◌, ◌<◌, false, List, [], ◌∷◌, ◌++◌, length, take, Ok, Err, refl, sym, ◌∙◌, ap, arith}
+use Rattle.std.proofs.Common.{◌≡◌, inl, inr, ⊎_elim, ℕ, ◌≤◌, ◌<◌, true, false, List, [], ◌∷◌, ◌++◌, length, take, drop, take-append-drop, Ok, Err, refl, sym, ◌∙◌, ap, subst, arith}
 use Rattle.std.specs.Str.{bytes_eq}
 use Rattle.std.proofs.lemmas.Bool.{lt-ltb}
+use Rattle.std.proofs.lemmas.Slice.Eq.{bytes_eq-Decides}
 use Rattle.std.proofs.lemmas.List.{append-nil, drop_all}
 use Rattle.store_dev.specs.Device.{Torn, Holds, Only, After, OnlyReads, LeavesOnly, Elapses}
-use Rattle.record_log.specs.Frames.{magic, reading, frames_of, AtRest, starts, IsOpenedAs, ReadsAsOneOf}
+use Rattle.record_log.specs.Frames.{magic, reading, frames_of, AtRest, IsOpenedAs, ReadsAsOneOf}
 use Rattle.record_log.specs.Frames.Fault.{NotAStore}
-use Rattle.record_log.specs.Kept.{Kept}
+use Rattle.record_log.specs.declared.kind.TheConstants.{GATE}
+use Rattle.record_log.specs.declared.mark.LogMark.{LogMark}
+use Rattle.record_log.specs.Kinds.{Entry}
+use Rattle.record_log.specs.Kept.{Kept, IsIndexOf}
 use Rattle.record_log.proofs.Rest.{short_read, stands_at_rest, at_rest_read}
 use Rattle.record_log.proofs.Appending.{frames_of_is}
 use Rattle.store_dev.specs.Moments.{goes_on}
@@ -17,14 +21,14 @@ nine = magic ++ 0 ∷ []
 pub written_empty : (old new : List ℕ) → length old ≤ 9 → Holds old 0 nine new → new ≡ nine
 written_empty old new short holds = holds ∙ ap (λ (l : List ℕ). nine ++ l) (drop_all 9 old short) ∙ append-nil nine
 
-pub kept_empty : (bytes : List ℕ) (images : List ℕ → Type 0) (offsets : List ℕ) → bytes ≡ nine → Only bytes images → offsets ≡ [] → Kept bytes images offsets 8
-kept_empty bytes images offsets is only none =
-    let rest = stands_at_rest bytes [] 8 0 [] is refl (omega arith) refl in
-    let fs : frames_of bytes ≡ [] = frames_of_is bytes [] (at_rest_read rest) in
-    record { rest = rw (fs) rest; read = at_rest_read rest ∙ ap Ok (sym fs); index = none ∙ ap (starts 8) (sym fs); durable = only }
+pub kept_found : (bytes : List ℕ) (images : List ℕ → Type 0) (mark : LogMark) → AtRest bytes (frames_of bytes) mark.end → IsIndexOf mark (frames_of bytes) → Only bytes images → Kept bytes images mark
+kept_found bytes images mark rest index only = record { rest = rest; read = at_rest_read rest; index = index; durable = only }
 
-pub kept_found : (bytes : List ℕ) (images : List ℕ → Type 0) (offsets : List ℕ) (end : ℕ) → AtRest bytes (frames_of bytes) end → offsets ≡ starts 8 (frames_of bytes) → Only bytes images → Kept bytes images offsets end
-kept_found bytes images offsets end rest index only = record { rest = rest; read = at_rest_read rest; index = index; durable = only }
+pub kept_empty : (bytes : List ℕ) (images : List ℕ → Type 0) (mark : LogMark) → bytes ≡ nine → Only bytes images → mark.end ≡ GATE → IsIndexOf mark [] → Kept bytes images mark
+kept_empty bytes images mark is only end index =
+    let rest : AtRest bytes [] mark.end = stands_at_rest bytes [] mark.end 0 [] is end (omega arith) refl in
+    let fs : frames_of bytes ≡ [] = frames_of_is bytes [] (at_rest_read rest) in
+    kept_found bytes images mark (subst (λ (l : List Entry). AtRest bytes l mark.end) (sym fs) rest) (subst (λ (l : List Entry). IsIndexOf mark l) (sym fs) index) only
 
 pub opened_empty : (old new : List ℕ) → length old ≤ 9 → new ≡ nine → IsOpenedAs old new
 opened_empty old new short is =
@@ -41,6 +45,9 @@ opened_same old new fs_end long is rest = record {
   empty = λ short. absurd (omega arith);
   same = λ _. is;
 }
+
+pub magic_front : (bytes : List ℕ) → bytes_eq (take 8 bytes) magic ≡ true → bytes ≡ magic ++ drop 8 bytes
+magic_front bytes good = sym (take-append-drop 8 bytes) ∙ ap (λ (l : List ℕ). l ++ drop 8 bytes) ((bytes_eq-Decides (take 8 bytes) magic).0 good)
 
 pub no_magic : (bytes : List ℕ) → 9 < length bytes → bytes_eq (take 8 bytes) magic ≡ false → reading bytes ≡ Err NotAStore
 unfolding reading

@@ -1,9 +1,9 @@
 -- Bytes at rest: frames behind open gates, and a gate that is not open.
-use Rattle.std.proofs.Common.{◌≡◌, ◌≢◌, ◌⊎◌, inl, inr, ℕ, ◌+◌, ◌≤◌, ◌<◌, true, List, [], ◌∷◌, ◌++◌, length, get_or, take, drop, Ok, refl, sym, ◌∙◌, ap, subst, arith, append_assoc, length-append, take-append-drop}
-use Rattle.std.proofs.lemmas.Bool.{cases_lt, cases_eq, le-ltb, lt-ltb, and_parts, and_from}
-use Rattle.std.proofs.lemmas.List.{take_at, drop_at, drop_more, take_all, append-nil, length-take, take-take, get_or_at}
-use Rattle.store_dev.specs.Device.{Torn, Holds}
-use Rattle.record_log.specs.Kinds.{Entry, has_form, text, size}
+use Rattle.std.proofs.Common.{◌≡◌, ◌≢◌, inl, inr, ℕ, ◌+◌, ◌≤◌, ◌<◌, true, List, [], ◌∷◌, ◌++◌, length, get_or, take, drop, Ok, refl, sym, ◌∙◌, ap, subst, arith, append_assoc, length-append, take-append-drop}
+use Rattle.std.proofs.lemmas.Bool.{cases_lt, le-ltb, lt-ltb, and_parts, and_from}
+use Rattle.std.proofs.lemmas.List.{take_at, drop_at, drop_more, take_all, append-nil, take-take, get_or_at}
+use Rattle.store_dev.specs.Device.{Torn}
+use Rattle.record_log.specs.Kinds.{Entry, has_form, text}
 use Rattle.record_log.specs.Frames.{walk, opened, all_formed, magic, reading, AtRest}
 use Rattle.record_log.proofs.Wide.{length-text}
 use Rattle.record_log.proofs.Walk.{walk_opened, walk_closed}
@@ -44,13 +44,6 @@ pub opened_push : (fs : List Entry) (e : Entry) (rest : List ℕ) → opened (fs
 opened_push [] e rest = ap (λ (l : List ℕ). 1 ∷ l) (append_assoc (text e) [] rest)
 opened_push (f ∷ fs) e rest =
     ap (λ (l : List ℕ). 1 ∷ l) (append_assoc (text f) (opened (fs ++ e ∷ [])) rest ∙ ap (λ (l : List ℕ). text f ++ l) (opened_push fs e rest) ∙ sym (append_assoc (text f) (opened fs) (1 ∷ (text e ++ rest))))
-
--- a whole frame behind any gate counts or it doesn't
-pub gate_read : (fs : List Entry) (e : Entry) (gate : ℕ) (tail : List ℕ) → all_formed [] fs ≡ true → has_form fs e ≡ true → (reading (stand fs gate (text e ++ 0 ∷ tail)) ≡ Ok fs) ⊎ (reading (stand fs gate (text e ++ 0 ∷ tail)) ≡ Ok (fs ++ e ∷ []))
-gate_read fs e gate tail formed h = elim (cases_eq gate 1) [
-  | inl is_open ↦ inr (ap (λ (g : ℕ). reading (stand fs g (text e ++ 0 ∷ tail))) is_open ∙ ap (λ (l : List ℕ). reading (magic ++ l)) (sym (opened_push fs e (0 ∷ tail))) ∙ stand_read (fs ++ e ∷ []) 0 tail (formed_push fs [] e formed h) (omega arith))
-  | inr shut ↦ inl (stand_read fs gate (text e ++ 0 ∷ tail) formed shut)
-]
 
 pub at_rest_stands : {bytes : List ℕ} {fs : List Entry} {end : ℕ} → AtRest bytes fs end → bytes ≡ stand fs (get_or bytes end 0) (drop (end + 1) bytes)
 at_rest_stands {bytes} {fs} {end} r = r.split ∙ ap (λ (l : List ℕ). magic ++ (opened fs ++ l)) (drop_more bytes end 0 r.inside)
@@ -113,33 +106,8 @@ torn_back at n old c inside torn = ap (λ (l : List ℕ). drop (at + n) l) (sym 
 pub body_torn : (n : ℕ) (bytes c : List ℕ) (fs : List Entry) (end : ℕ) → AtRest bytes fs end → Torn (end + 1) n bytes c → AtRest c fs end
 body_torn n bytes c fs end r torn = front_at_rest bytes c fs end r (torn_front (end + 1) n bytes c (omega (arith, r.inside)) torn)
 
--- a whole frame stands behind the gate, and a gate that is not open behind it
-pub record Staged (bytes : List ℕ) (fs : List Entry) (end : ℕ) (e : Entry) : Type 0 where
-  pub rest : AtRest bytes fs end
-  pub tail : List ℕ
-  pub behind : drop (end + 1) bytes ≡ text e ++ 0 ∷ tail
-
-pub body_written : (bytes c : List ℕ) (fs : List Entry) (end : ℕ) (e : Entry) → AtRest bytes fs end → Holds bytes (end + 1) (text e ++ 0 ∷ []) c → Staged c fs end e
-body_written bytes c fs end e r holds = record {
-  rest = front_at_rest bytes c fs end r (ap (λ (l : List ℕ). take (end + 1) l) is ∙ take_at front back (end + 1) size_is);
-  tail = drop (end + 1 + length (text e ++ 0 ∷ [])) bytes;
-  behind = ap (λ (l : List ℕ). drop (end + 1) l) is ∙ drop_at front back (end + 1) size_is ∙ append_assoc (text e) (0 ∷ []) (drop (end + 1 + length (text e ++ 0 ∷ [])) bytes);
-}
-  where
-    front : List ℕ
-    front = take (end + 1) bytes
-
-    back : List ℕ
-    back = (text e ++ 0 ∷ []) ++ drop (end + 1 + length (text e ++ 0 ∷ [])) bytes
-
-    is : c ≡ front ++ back
-    is = holds ∙ append_assoc front (text e ++ 0 ∷ []) (drop (end + 1 + length (text e ++ 0 ∷ [])) bytes)
-
-    size_is : length front ≡ end + 1
-    size_is = omega (arith, length-take (end + 1) bytes, r.inside)
-
 -- bytes whose gate alone may differ
-regated : (bytes c : List ℕ) (fs : List Entry) (end : ℕ) → AtRest bytes fs end → end < length c → take end c ≡ take end bytes → drop (end + 1) c ≡ drop (end + 1) bytes → c ≡ stand fs (get_or c end 0) (drop (end + 1) bytes)
+pub regated : (bytes c : List ℕ) (fs : List Entry) (end : ℕ) → AtRest bytes fs end → end < length c → take end c ≡ take end bytes → drop (end + 1) c ≡ drop (end + 1) bytes → c ≡ stand fs (get_or c end 0) (drop (end + 1) bytes)
 regated bytes c fs end r long front back =
     sym (take-append-drop end c)
     ∙ ap (λ (l : List ℕ). l ++ drop end c) (front ∙ fore)
@@ -150,26 +118,3 @@ regated bytes c fs end r long front back =
 
     fore : take end bytes ≡ magic ++ opened fs
     fore = ap (λ (l : List ℕ). take end l) r.split ∙ take_at (magic ++ opened fs) (drop end bytes) end size_is
-
--- the write of the gate
-pub gate_torn : (bytes c : List ℕ) (fs : List Entry) (end : ℕ) (e : Entry) → Staged bytes fs end e → has_form fs e ≡ true → Torn end 1 bytes c → (reading c ≡ Ok fs) ⊎ (reading c ≡ Ok (fs ++ e ∷ []))
-gate_torn bytes c fs end e s h torn =
-    let r = s.rest in
-    let long : end < length bytes = r.inside in
-    let is : c ≡ stand fs (get_or c end 0) (text e ++ 0 ∷ s.tail) = regated bytes c fs end r (omega (arith, torn.no_shorter, long)) (torn_front end 1 bytes c (omega (arith, long)) torn) (torn_back end 1 bytes c (omega (arith, long)) torn) ∙ ap (λ (l : List ℕ). stand fs (get_or c end 0) l) s.behind in
-    subst (λ (l : List ℕ). (reading l ≡ Ok fs) ⊎ (reading l ≡ Ok (fs ++ e ∷ []))) (sym is) (gate_read fs e (get_or c end 0) s.tail r.formed h)
-
-pub gate_written : (bytes c : List ℕ) (fs : List Entry) (end : ℕ) (e : Entry) → Staged bytes fs end e → has_form fs e ≡ true → Holds bytes end (1 ∷ []) c → AtRest c (fs ++ e ∷ []) (end + (size e + 1))
-gate_written bytes c fs end e s h holds = stands_at_rest c (fs ++ e ∷ []) (end + (size e + 1)) 0 s.tail is place (omega arith) (formed_push fs [] e s.rest.formed h)
-  where
-    size_is : length (magic ++ opened fs) ≡ end
-    size_is = omega (arith, s.rest.place)
-
-    fore : take end bytes ≡ magic ++ opened fs
-    fore = ap (λ (l : List ℕ). take end l) s.rest.split ∙ take_at (magic ++ opened fs) (drop end bytes) end size_is
-
-    is : c ≡ stand (fs ++ e ∷ []) 0 s.tail
-    is = holds ∙ ap (λ (l : List ℕ). (l ++ 1 ∷ []) ++ drop (end + 1) bytes) fore ∙ append_assoc (magic ++ opened fs) (1 ∷ []) (drop (end + 1) bytes) ∙ ap (λ (l : List ℕ). (magic ++ opened fs) ++ (1 ∷ l)) s.behind ∙ ap (λ (l : List ℕ). magic ++ l) (sym (opened_push fs e (0 ∷ s.tail)))
-
-    place : end + (size e + 1) ≡ 8 + length (opened (fs ++ e ∷ []))
-    place = omega (arith, s.rest.place, length-append (opened (fs ++ e ∷ [])) [], ap length (opened_push fs e []), length-append (opened fs) (1 ∷ (text e ++ [])), length-append (text e) [], length-text e)

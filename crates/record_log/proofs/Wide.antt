@@ -1,26 +1,25 @@
 -- What is written as a frame is read as it, and what is read as a frame was written, for both widths of lengths.
-use Rattle.std.proofs.Common.{◌≡◌, ◌≢◌, inl, inr, ℕ, suc, ◌+◌, ◌^◌, ◌<◌, ◌≤◌, ◌-◌, Bool, true, false, cond, List, [], ◌∷◌, ◌++◌, length, take, drop, Option, Some, None, refl, sym, ◌∙◌, ap, subst, arith, append_assoc, length-append, length-drop, take-append-drop}
-use Rattle.std.specs.Prelude.{◌==◌}
+use Rattle.std.proofs.Common.{◌≡◌, inl, inr, ℕ, suc, ◌+◌, ◌^◌, ◌<◌, ◌≤◌, ◌-◌, Bool, true, false, cond, List, [], ◌∷◌, ◌++◌, length, take, drop, Option, Some, None, refl, sym, ◌∙◌, ap, subst, arith, append_assoc, length-append, length-drop, take-append-drop}
 use Rattle.std.specs.Int.{Width, w32, w64, byte_len, from_le_bytes, to_le_bytes}
-use Rattle.std.proofs.lemmas.Bool.{cases_lt, cases_Bool, lt-ltb, le-ltb, ltb-true, and_parts, ne_eqb}
+use Rattle.std.proofs.lemmas.Bool.{cases_lt, cases_Bool, lt-ltb, le-ltb, ltb-true, and_parts}
 use Rattle.std.proofs.lemmas.List.{take_at, drop_at, length-take}
 use Rattle.std.proofs.lemmas.Nat.{le_bytes_4, le_bytes_8, from_le_bytes-to_le_bytes_4, from_le_bytes-to_le_bytes_8}
 use Rattle.codes.specs.Codes.{AreBytes}
 use Rattle.codes.specs.Reading.{AreBytes-drop, AreBytes-take}
-use Rattle.record_log.specs.Kinds.{Entry, width_of, limit_of, has_form, form, blobs, text_in, size_in, text, size, key_len, value_len, body, entry_in, frame_in, frame_at}
+use Rattle.record_log.specs.Kinds.{Entry, is_long, width_of, limit_of, has_form, form, blobs, text_in, size_in, text, size, key_len, value_len, body, entry_in, frame_in, frame_at}
 
 -- lengths of that width below that limit
 pub record IsWide (w : Width) (limit : ℕ) : Type 0 where
-  pub some : 4 ≤ byte_len w
+  pub few : byte_len w ≤ 8
   pub len : (n : ℕ) → length (to_le_bytes w n) ≡ byte_len w
   pub back : (bytes : List ℕ) → length bytes ≡ byte_len w → AreBytes bytes → to_le_bytes w (from_le_bytes w bytes) ≡ bytes
   pub again : (n : ℕ) → n < limit → from_le_bytes w (to_le_bytes w n) ≡ n
 
 pub wide32 : IsWide w32 (2 ^ 32)
-wide32 = record { some = omega arith; len = λ n. refl; back = λ bytes len fits. le_bytes_4 bytes _ len fits refl; again = λ n lt. from_le_bytes-to_le_bytes_4 n lt }
+wide32 = record { few = omega arith; len = λ n. refl; back = λ bytes len fits. le_bytes_4 bytes _ len fits refl; again = λ n lt. from_le_bytes-to_le_bytes_4 n lt }
 
 wide64 : IsWide w64 (2 ^ 64)
-wide64 = record { some = omega arith; len = λ n. refl; back = λ bytes len fits. le_bytes_8 bytes _ len fits refl; again = λ n lt. from_le_bytes-to_le_bytes_8 n lt }
+wide64 = record { few = omega arith; len = λ n. refl; back = λ bytes len fits. le_bytes_8 bytes _ len fits refl; again = λ n lt. from_le_bytes-to_le_bytes_8 n lt }
 
 pub wide_if : (b : Bool) → IsWide (cond b w64 w32) (cond b (2 ^ 64) (2 ^ 32))
 wide_if true = wide64
@@ -174,19 +173,14 @@ short_lens before e h =
 
 pub length-text : (e : Entry) → length (text e) ≡ size e
 unfolding text size
-length-text e = length-text_in (width_of e.kind) (limit_of e.kind) (wide_if (e.kind == 4)) e
-
--- where the lengths have four bytes
-pub text_narrow : (e : Entry) → e.kind ≢ 4 → text e ≡ text_in w32 e
-unfolding text
-text_narrow e other = ap (λ (b : Bool). text_in (cond b w64 w32) e) (ne_eqb e.kind 4 other)
+length-text e = length-text_in (width_of e.kind) (limit_of e.kind) (wide_if (is_long e.kind)) e
 
 -- what is written is read
 pub again : (before : List Entry) (e : Entry) (rest : List ℕ) → has_form before e ≡ true → 1 ≤ length rest → frame_at before (text e ++ rest) ≡ Some e
 unfolding text frame_at
 again before e rest h more =
     let short = short_lens before e h in
-    again_in (width_of e.kind) (limit_of e.kind) (wide_if (e.kind == 4)) before e rest short.key short.value h more
+    again_in (width_of e.kind) (limit_of e.kind) (wide_if (is_long e.kind)) before e rest short.key short.value h more
 
 some : Entry → Option Entry
 some e = Some e
@@ -211,7 +205,7 @@ taken before (kind ∷ tail) e fits found =
       | inr long ↦ elim (cases_Bool (has_form before (entry_in w kind tail))) [
         | inl good ↦
             let it = frame_some w before kind tail long good in
-            let t = taken_in w (limit_of kind) (wide_if (kind == 4)) kind tail (λ i. fits (suc i)) long in
+            let t = taken_in w (limit_of kind) (wide_if (is_long kind)) kind tail (λ i. fits (suc i)) long in
             subst (IsTaken before (kind ∷ tail)) (some_is (entry_in w kind tail) e (sym it ∙ found)) (record { is = t.0; formed = good; room = t.1 })
         | inr bad ↦ let none = frame_unformed w before kind tail long bad in absurd (cc (none, found))
       ]

@@ -1,5 +1,5 @@
 -- What the bytes of a store stand for: eight bytes of magic, and then gates with a frame behind each that is open.
-use Rattle.std.specs.Prelude.{◌≡◌, ◌≢◌, ◌⊎◌, ◌<◌, ℕ, zero, suc, ◌+◌, ◌^◌, Bool, true, ◌&&◌, ◌==◌, if◌then◌else◌, nat_lt, List, [], ◌∷◌, ◌++◌, length, take, drop, get_or, Some, None, Result, Ok, Err}
+use Rattle.std.specs.Prelude.{◌≡◌, ◌≢◌, ◌⊎◌, ◌<◌, ℕ, zero, suc, ◌+◌, Bool, true, ◌&&◌, ◌==◌, if◌then◌else◌, nat_lt, List, [], ◌∷◌, ◌++◌, length, take, drop, get_or, Some, None, Result, Ok, Err, codes}
 use Rattle.std.specs.Str.{bytes_eq}
 use Rattle.record_log.specs.Kinds.{Entry, has_form, text, size, frame_at}
 
@@ -16,9 +16,9 @@ walk before at (suc skip) (_ ∷ rest) = walk before (at + 1) skip rest
 walk before at zero (gate ∷ rest) = if gate == 1 then (elim (frame_at before rest) [ Some e ↦ walk (before ++ e ∷ []) (at + 1) (size e) rest | None ↦ Err (Damaged (at + 1)) ]) else Ok before
 walk before at skip [] = Ok before
 
--- `TURBSTO1`
+-- how a store begins
 abbrev pub magic : List ℕ
-magic = 84 ∷ 85 ∷ 82 ∷ 66 ∷ 83 ∷ 84 ∷ 79 ∷ 49 ∷ []
+magic = codes "TURBSTO1"
 
 -- The frames of a store, or why the bytes are none. At most nine bytes are an empty store, whatever they are.
 unfoldable pub reading : List ℕ → Result (List Entry) Fault
@@ -38,10 +38,9 @@ abbrev pub all_formed : List Entry → List Entry → Bool
 all_formed before [] = true
 all_formed before (e ∷ es) = has_form before e && all_formed (before ++ e ∷ []) es
 
--- the offsets of their kind bytes, where the first gate is at that place
-abbrev pub starts : ℕ → List Entry → List ℕ
-starts gate [] = []
-starts gate (e ∷ es) = (gate + 1) ∷ starts (gate + 1 + size e) es
+-- the bytes of a store with these frames, without the gate behind them
+abbrev pub text_of : List Entry → List ℕ
+text_of es = magic ++ opened es
 
 -- where the frames end, with the gate behind them
 abbrev pub ends : List Entry → ℕ
@@ -64,17 +63,22 @@ IsBeforeOrAfter es e bytes = (reading bytes ≡ Ok es) ⊎ (reading bytes ≡ Ok
 abbrev pub ReadsAsOneOf : (List ℕ → Type 0) → List ℕ → Type 0
 ReadsAsOneOf images c = (d : List ℕ) × images d × (reading c ≡ reading d)
 
--- A frame stands at that offset, with a gate behind it. Its lengths have four bytes.
+-- a frame stands at that offset, with a gate behind it
 pub record Stands (bytes : List ℕ) (at : ℕ) (e : Entry) : Type 0 where
   pub here : drop at bytes ≡ text e ++ drop (at + size e) bytes
   pub room : at + size e < length bytes
-  pub narrow : e.kind ≢ 4
-  pub key_fits : length e.key < 2 ^ 32
-  pub value_fits : length e.value < 2 ^ 32
 
 -- the frame with that number
 abbrev pub IsAt : List Entry → ℕ → Entry → Type 0
 IsAt es number e = (number < length es) × (e ≡ get_or es number e)
+
+-- or for no frames
+abbrev pub ReadsAsOneOrNone : (List ℕ → Type 0) → List ℕ → Type 0
+ReadsAsOneOrNone images c = ReadsAsOneOf images c ⊎ (reading c ≡ Ok [])
+
+-- the bytes are a store
+abbrev pub IsSound : List ℕ → Type 0
+IsSound bytes = reading bytes ≡ Ok (frames_of bytes)
 
 -- What a device holds after it was opened as a store: what it held, or an empty store in the place of at most nine bytes.
 pub record IsOpenedAs (old new : List ℕ) : Type 0 where

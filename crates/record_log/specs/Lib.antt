@@ -1,6 +1,9 @@
+pub mod Pieces
 pub mod Kinds
+pub mod Seats
 pub mod Frames
 pub mod Window
+pub mod Batch
 pub mod Kept
 pub mod Answers
 pub mod Forms

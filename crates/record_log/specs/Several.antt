@@ -5,6 +5,7 @@ use Rattle.store_dev.specs.Device.{LeavesOnly}
 use Rattle.store_dev.specs.Moments.{leaves_then}
 use Rattle.record_log.specs.Kinds.{Entry}
 use Rattle.record_log.specs.Frames.{reading, frames_of, IsBeforeOrAfter}
+use Rattle.record_log.specs.declared.mark.LogMark.{LogMark}
 use Rattle.record_log.specs.Kept.{Kept}
 
 -- the bytes stand for these frames and some of the new ones, from the front
@@ -36,5 +37,5 @@ module _ {D : Type 0} (moment : D → ℕ) (since : D → ℕ → List ℕ → T
   between_then a b d es mid xs ys x is y = leaves_then moment since a b d (IsBetween es xs) (IsBetween mid ys) (IsBetween es (xs ++ ys)) x y (between_front es xs ys) (λ c q. between_back es xs ys c (subst (λ (l : List Entry). IsBetween l ys c) is q))
 
 -- each image of a log that is whole stands for its frames
-pub images_read : {bytes : List ℕ} {images : List ℕ → Type 0} {offsets : List ℕ} {end : ℕ} → Kept bytes images offsets end → (c : List ℕ) → images c → reading c ≡ Ok (frames_of bytes)
+pub images_read : {bytes : List ℕ} {images : List ℕ → Type 0} {mark : LogMark} → Kept bytes images mark → (c : List ℕ) → images c → reading c ≡ Ok (frames_of bytes)
 images_read kept c now = ap reading (kept.durable c now) ∙ kept.read

@@ -1,10 +1,11 @@
 // One frame, and its bytes.
-ghost use Rattle.std.specs.Prelude.{◌≡◌, ◌≢◌, ◌<◌, ◌≤◌, ◌^◌, ◌+◌, ◌++◌, List, ℕ, [], ◌∷◌, min, length, take, IfOk, IfSome};
-ghost use Rattle.std.specs.Option.{option_map};
-ghost use Rattle.std.specs.Int.{w32};
-ghost use Rattle.record_log.specs.Kinds.{Entry, text_in, entry, size, frame_at};
+ghost use Rattle.std.specs.Prelude.{◌≡◌, ◌<◌, ◌+◌, ◌++◌, [], ◌∷◌, length, IfOk, OnOk};
+ghost use Rattle.record_log.specs.Kinds.{entry, text, limit_of, room_for};
+ghost use Rattle.record_log.specs.Frames.{opened};
+ghost use Rattle.record_log.specs.Batch.{new_entries, EachWithin, room_for_all};
 
-use codes::put_word;
+use crate::kind::{CLOSED, OPEN, head_of, is_long};
+use crate::number::put_number;
 use rel_path::Bytes;
 use std::alloc::{AllocError, Global};
 
@@ -16,44 +17,59 @@ pub struct Frame {
     pub value: Bytes,
 }
 
-/// How many bytes of a frame tell its kind and its lengths.
-pub const HEAD: u64 = 9;
-
-/// A frame whose lengths have four bytes, and the gate behind it, which is closed.
-#[tactic(auto, unfolding(codes::specs::Codes::word))]
-pub fn body_of(alloc: Global, kind: u8, key: &[u8], value: &[u8]) -> Result<Vec<u8>, AllocError>
-    requires key_len { length key.now < 2 ^ 32 }
-    requires value_len { length value.now < 2 ^ 32 }
-    ensures { IfOk result (λ body. body.items ≡ text_in w32 (entry kind key.now value.now) ++ 0 ∷ []) }
+/// Adds the bytes of a frame.
+#[tactic(auto, unfolding(crate::specs::Kinds::text, crate::specs::Pieces::number))]
+pub fn put_text(to: &mut Vec<u8>, kind: u8, key: &[u8], value: &[u8]) -> Result<(), AllocError>
+    requires key_len { length key.now < limit_of kind }
+    requires value_len { length value.now < limit_of kind }
+    ensures { OnOk result (to.new.items ≡ to.old.items ++ text (entry kind key.now value.now)) }
 {
-    let mut body = Vec::with_capacity(alloc, 10 + key.len() + value.len())?;
-    body.push(kind)?;
-    put_word(&mut body, key.len() as u32)?;
-    put_word(&mut body, value.len() as u32)?;
-    body.extend_from_slice(key)?;
-    body.extend_from_slice(value)?;
-    body.push(0)?;
-    Ok(body)
+    to.push(kind)?;
+    put_number(to, is_long(kind), key.len() as u64)?;
+    put_number(to, is_long(kind), value.len() as u64)?;
+    to.extend_from_slice(key)?;
+    to.extend_from_slice(value)?;
+    Ok(())
 }
 
-/// How many bytes the frame has that begins so, with so much room behind it for the frame and a gate. `None` where no
-/// frame stands there.
-pub fn frame_size(head: &[u8], room: u64) -> Option<u64>
-    requires { min HEAD room ≤ length head.now }
-    ensures size { (before : List Entry) (bytes : List ℕ) → head.now ≡ take (length head.now) bytes → length bytes ≡ room → option_map size (frame_at before bytes) ≡ result }
-    ensures inside { IfSome result (λ n. n < room) }
+/// How many bytes a frame takes with the gate behind it, or 2^64 - 1 where that is more.
+#[tactic(auto, unfolding(crate::specs::Kinds::size))]
+pub fn need_of(kind: u8, key: &[u8], value: &[u8]) -> u64
+    ensures { result ≡ room_for (entry kind key.now value.now) }
 {
-    if room <= HEAD {
-        return None;
+    let lens = (key.len() as u64).saturating_add(value.len() as u64);
+    lens.saturating_add(head_of(kind) + 1)
+}
+
+/// A frame that is to be appended.
+#[derive(Clone, Copy, Debug)]
+pub struct NewFrame<'a> {
+    pub kind: u8,
+    pub key: &'a [u8],
+    pub value: &'a [u8],
+}
+
+/// The bytes of frames, each behind an open gate, and a closed gate behind them.
+pub fn opened_bytes(alloc: Global, frames: &[NewFrame]) -> Result<Vec<u8>, AllocError>
+    requires { EachWithin (new_entries frames.now) }
+    ensures { IfOk result (λ bytes. bytes.items ≡ opened (new_entries frames.now) ++ 0 ∷ []) }
+{
+    let mut bytes = Vec::new(alloc);
+    for frame in frames {
+        bytes.push(OPEN)?;
+        put_text(&mut bytes, frame.kind, frame.key, frame.value)?;
     }
-    if head[0] != 1 {
-        return None;
+    bytes.push(CLOSED)?;
+    Ok(bytes)
+}
+
+/// How many bytes frames take, each with a gate, or 2^64 - 1 where that is more.
+pub fn need_of_all(frames: &[NewFrame]) -> u64
+    ensures { result ≡ room_for_all (new_entries frames.now) }
+{
+    let mut need: u64 = 0;
+    for frame in frames {
+        need = need.saturating_add(need_of(frame.kind, frame.key, frame.value));
     }
-    let key_len = u32::from_le_bytes([head[1], head[2], head[3], head[4]]);
-    let value_len = u32::from_le_bytes([head[5], head[6], head[7], head[8]]);
-    let size = HEAD + (key_len as u64 + value_len as u64);
-    if size < room {
-        return Some(size);
-    }
-    None
+    need
 }

@@ -7,12 +7,19 @@
 
 mod error;
 mod frame;
+mod kind;
 mod log;
+mod mark;
+mod number;
 mod open;
+mod piece;
 mod scan;
+mod seat;
 mod steps;
 mod window;
 
 pub use error::{LogErr, Unopened};
-pub use frame::Frame;
-pub use log::{LIMIT, Log};
+pub use frame::{Frame, NewFrame};
+pub use kind::{CONTENT, GENERATION, LONG_RECORD, PAIR, RECORD};
+pub use log::Log;
+pub use mark::LogMark;

@@ -1,37 +1,39 @@
 // The frames of a device.
-ghost use Rattle.std.specs.Prelude.{true, ◌≡◌, ◌⊎◌, ◌≤◌, ◌<◌, ◌^◌, ◌+◌, ◌-◌, ◌++◌, List, ℕ, [], ◌∷◌, length, OnOk, OnErr, IfOk, IfErr, IsTrue};
+ghost use Rattle.std.specs.Prelude.{true, ◌≡◌, ◌⊎◌, ◌≤◌, ◌<◌, ◌^◌, ◌+◌, ◌-◌, ◌++◌, List, ℕ, [], ◌∷◌, length, take, drop, OnOk, OnErr, IfOk, IfErr, IsTrue};
+ghost use Rattle.rel_path.specs.Limits.{store_limit};
 ghost use Rattle.record_log.specs.Kept.{Kept, Front};
 
-use crate::open::start;
-use crate::scan::{Index, read_frame};
-use crate::steps::write_frame;
-use crate::{Frame, LogErr, Unopened};
+use crate::frame::{NewFrame, need_of_all};
+use crate::open::{clear, start};
+use crate::scan::read_frame;
+use crate::steps::write_frames;
+use crate::{Frame, LogErr, LogMark, Unopened};
+use rel_path::Span;
+use rel_path::limits::MAX_STORE_BYTES;
 use std::alloc::Global;
 use store_dev::{StoreDevice, StoreErr};
-
-/// The most bytes that a store may have.
-pub const LIMIT: u64 = 1 << 32;
 
 /// A device that was opened as a log. It keeps where each frame stands, so that any one is found without the others.
 #[derive(Drop)]
 pub struct Log<S: StoreDevice> {
     device: S,
-    // Where the kind bytes stand.
-    offsets: Vec<u64>,
-    // The gate behind the last frame.
-    end: u64,
+    mark: LogMark,
     whole: bool,
-    ghost small: { end < 2 ^ 64 - 1 },
-    pub ghost front: { S.tells → Front (S.content device) offsets.items },
-    pub ghost kept: { IsTrue whole → S.tells → Kept (S.content device) (S.images device) offsets.items end },
+    probes: u64,
+    pub ghost front: { S.tells → Front (S.content device) mark },
+    pub ghost kept: { IsTrue whole → S.tells → Kept (S.content device) (S.images device) mark },
 }
 
 impl<S: StoreDevice> Log<S> {
     ghost use Rattle.rel_path.specs.Causes.{Counts};
     ghost use Rattle.store_dev.specs.Device.{LeavesOnly, Only, OnlyReads};
-    ghost use Rattle.record_log.specs.Kinds.{entry, limit_of, is_known, form, blobs, room_for};
-    ghost use Rattle.record_log.specs.Frames.{frames_of, reading, IsAt, IsBeforeOrAfter, IsOpenedAs, ReadsAsOneOf, ends};
-    ghost use Rattle.record_log.specs.Log.{device_of, frames_in, count_of, is_whole, room_of};
+    ghost use Rattle.record_log.specs.Kinds.{Entry, entry, limit_of, is_known, form, blobs, room_for};
+    ghost use Rattle.record_log.specs.Frames.{frames_of, reading, IsAt, IsBeforeOrAfter, IsOpenedAs, ReadsAsOneOf, ends, text_of};
+    ghost use Rattle.record_log.specs.Frames.{all_formed, IsSound, ReadsAsOneOrNone};
+    ghost use Rattle.record_log.specs.Kept.{IsMarkOf, marked};
+    ghost use Rattle.record_log.specs.Batch.{new_entries, AllKnown, EachWithin, room_for_all, IsBeforeOrAll};
+    ghost use Rattle.record_log.specs.Seats.{IsWithin, IsSpanOf, capped};
+    ghost use Rattle.record_log.specs.Log.{device_of, frames_in, count_of, is_whole, room_of, probes_of, generation_in};
     ghost use Rattle.record_log.specs.Answers.{is_fault, IsOpenErr, IsAppendErr, IsReadErr, IsFaultOf, raised, entry_of, WholeAfter, IsFullWhere};
 
     /// Opens a device as a log, whose frames are those that the device holds. At most nine bytes are an empty store,
@@ -39,6 +41,27 @@ impl<S: StoreDevice> Log<S> {
     pub fn open(alloc: Global, store: S) -> Result<Log<S>, Unopened<S, LogErr>>
         ensures ok { S.tells → IfOk result (λ log. IsOpenedAs (S.content store) (S.content (device_of log))) }
         ensures whole { IfOk result (λ log. IsTrue (is_whole log)) }
+        ensures probes { IfOk result (λ log. probes_of log ≡ 0) }
+        ensures fault { S.tells → IfErr result (λ u. IsFaultOf (raised u.fault) (reading (S.content store))) }
+        ensures answers { IfErr result (λ u. IsOpenErr u.fault) }
+        ensures same { S.tells → 9 < length (S.content store) → IfErr result (λ u. S.content u.store ≡ S.content store) }
+
+        // Whatever it answers, each image since it began stands for what one of the images stood for as it began.
+        ensures images_ok { S.tells → IfOk result (λ log. LeavesOnly S.moment S.images_since store (device_of log) (ReadsAsOneOf (S.images store))) }
+        ensures images_err { S.tells → IfErr result (λ u. LeavesOnly S.moment S.images_since store u.store (ReadsAsOneOf (S.images store))) }
+        ensures durable { S.tells → IfOk result (λ log. Only (S.content (device_of log)) (S.images (device_of log))) }
+        ensures cause_ok { IfOk result (λ log. S.store_faults (device_of log) ≡ S.store_faults store) }
+        ensures cause_err { IfErr result (λ u. Counts is_fault (S.store_faults store) (S.store_faults u.store) (raised u.fault)) }
+    {
+        Log::resume(alloc, store, LogMark::new(alloc))
+    }
+
+    /// Opens a device again of whose frames so many are known, and reads those behind them alone. It answers as `open`.
+    pub fn resume(alloc: Global, store: S, mark: LogMark) -> Result<Log<S>, Unopened<S, LogErr>>
+        requires { S.tells → IsMarkOf mark (frames_of (S.content store)) }
+        ensures ok { S.tells → IfOk result (λ log. IsOpenedAs (S.content store) (S.content (device_of log))) }
+        ensures whole { IfOk result (λ log. IsTrue (is_whole log)) }
+        ensures probes { IfOk result (λ log. probes_of log ≡ 0) }
         ensures fault { S.tells → IfErr result (λ u. IsFaultOf (raised u.fault) (reading (S.content store))) }
         ensures answers { IfErr result (λ u. IsOpenErr u.fault) }
         ensures same { S.tells → 9 < length (S.content store) → IfErr result (λ u. S.content u.store ≡ S.content store) }
@@ -51,12 +74,43 @@ impl<S: StoreDevice> Log<S> {
         ensures cause_err { IfErr result (λ u. Counts is_fault (S.store_faults store) (S.store_faults u.store) (raised u.fault)) }
     {
         let mut device = store;
-        match start(alloc, &mut device) {
-            Ok(Index { offsets, end }) => Ok(Log {
+        match start(alloc, &mut device, mark) {
+            Ok(mark) => Ok(Log {
                 device,
-                offsets,
-                end,
+                mark,
                 whole: true,
+                probes: 0,
+            }),
+            Err(fault) => Err(Unopened {
+                fault,
+                store: device,
+            }),
+        }
+    }
+
+    /// Opens a device as an empty log: no frame of it counts any more. It asks that a crash leaves nothing but stores.
+    pub fn reset(alloc: Global, store: S) -> Result<Log<S>, Unopened<S, LogErr>>
+        requires { S.tells → (c : List ℕ) → S.images store c → IsSound c }
+        ensures frames { S.tells → IfOk result (λ log. frames_in log ≡ []) }
+        ensures whole { IfOk result (λ log. IsTrue (is_whole log)) }
+        ensures probes { IfOk result (λ log. probes_of log ≡ 0) }
+        ensures answers { IfErr result (λ u. IsReadErr u.fault) }
+
+        // Whatever it answers, each image since it began stands for what one of the images stood for as it began, or for
+        // no frames.
+        ensures images_ok { S.tells → IfOk result (λ log. LeavesOnly S.moment S.images_since store (device_of log) (ReadsAsOneOrNone (S.images store))) }
+        ensures images_err { S.tells → IfErr result (λ u. LeavesOnly S.moment S.images_since store u.store (ReadsAsOneOrNone (S.images store))) }
+        ensures durable { S.tells → IfOk result (λ log. Only (S.content (device_of log)) (S.images (device_of log))) }
+        ensures cause_ok { IfOk result (λ log. S.store_faults (device_of log) ≡ S.store_faults store) }
+        ensures cause_err { IfErr result (λ u. Counts is_fault (S.store_faults store) (S.store_faults u.store) (raised u.fault)) }
+    {
+        let mut device = store;
+        match clear(alloc, &mut device) {
+            Ok(mark) => Ok(Log {
+                device,
+                mark,
+                whole: true,
+                probes: 0,
             }),
             Err(fault) => Err(Unopened {
                 fault,
@@ -70,6 +124,16 @@ impl<S: StoreDevice> Log<S> {
         ensures { result ≡ device_of self }
     {
         self.device
+    }
+
+    /// The device, as the last call left it, with what is known of its frames, for a later `resume`.
+    pub fn rest(self) -> (LogMark, S)
+        ensures device { result.1 ≡ device_of self }
+        ensures count { marked result.0 ≡ count_of self }
+        ensures mark { S.tells → IsMarkOf result.0 (frames_of (S.content result.1)) }
+        ensures all { IsTrue (is_whole self) → S.tells → marked result.0 ≡ length (frames_of (S.content result.1)) }
+    {
+        (self.mark, self.device)
     }
 
     /// Whether the log may be appended to. It is so from its opening until an append fails, after which the store is to be
@@ -86,15 +150,49 @@ impl<S: StoreDevice> Log<S> {
         ensures frames { IsTrue (is_whole self.now) → S.tells → result ≡ length (frames_in self.now) }
         ensures few { S.tells → result ≤ length (frames_in self.now) }
     {
-        self.offsets.len() as u64
+        self.mark.seats.len() as u64
     }
 
     /// How many bytes more the frames may take, each with the gate behind it.
     pub fn room(&self) -> u64
         ensures room { result ≡ room_of self.now }
-        ensures frames { IsTrue (is_whole self.now) → S.tells → result ≡ LIMIT - ends (frames_in self.now) }
+        ensures frames { IsTrue (is_whole self.now) → S.tells → result ≡ store_limit - ends (frames_in self.now) }
     {
-        LIMIT.saturating_sub(self.end + 1)
+        MAX_STORE_BYTES.saturating_sub(self.mark.end + 1)
+    }
+
+    /// The generation of the frames: the number in the last frame of that kind, or 0 without one.
+    pub fn generation(&self) -> u64
+        ensures { IsTrue (is_whole self.now) → S.tells → result ≡ generation_in self.now }
+    {
+        self.mark.generation
+    }
+
+    /// The kind of the frame with that number. Neither it nor the two calls below read anything.
+    pub fn kind_at(&self, number: u64) -> u8
+        requires { number < count_of self.now }
+        ensures { S.tells → (e : Entry) → IsAt (frames_in self.now) number e → result ≡ e.kind }
+    {
+        let seat = self.mark.seats[number as usize];
+        seat.kind
+    }
+
+    /// Where its key stands in the text of the frames.
+    pub fn key_span(&self, number: u64) -> Span
+        requires { number < count_of self.now }
+        ensures { S.tells → (e : Entry) → IsAt (frames_in self.now) number e → IsSpanOf (text_of (frames_in self.now)) result e.key }
+    {
+        let seat = self.mark.seats[number as usize];
+        seat.key()
+    }
+
+    /// Where its value stands.
+    pub fn value_span(&self, number: u64) -> Span
+        requires { number < count_of self.now }
+        ensures { S.tells → (e : Entry) → IsAt (frames_in self.now) number e → IsSpanOf (text_of (frames_in self.now)) result e.value }
+    {
+        let seat = self.mark.seats[number as usize];
+        seat.value()
     }
 
     /// The frame with that number.
@@ -105,12 +203,31 @@ impl<S: StoreDevice> Log<S> {
         ensures whole { is_whole self.new ≡ is_whole self.old }
         ensures count { count_of self.new ≡ count_of self.old }
         ensures room { room_of self.new ≡ room_of self.old }
+        ensures probes { probes_of self.new ≡ capped (probes_of self.old) 1 }
         ensures answers { IfErr result IsReadErr }
         ensures cause { Counts is_fault (S.store_faults (device_of self.old)) (S.store_faults (device_of self.new)) result }
     {
-        let at = self.offsets[number as usize];
-        let frame = read_frame(alloc, &mut self.device, at)?;
+        self.probes = self.probes.saturating_add(1);
+        let seat = self.mark.seats[number as usize];
+        let frame = read_frame(alloc, &mut self.device, seat)?;
         Ok(frame)
+    }
+
+    /// Fills the buffer with that part of the text of the frames. It takes no memory.
+    pub fn read_span(&mut self, at: u64, to: &mut [u8]) -> Result<(), LogErr>
+        requires { S.tells → IsWithin (text_of (frames_in self.old)) at (length to.old) }
+        ensures value { S.tells → OnOk result (to.new ≡ take (length to.old) (drop at (text_of (frames_in self.old)))) }
+        ensures reads { OnlyReads S.content S.images S.moment S.images_since (device_of self.old) (device_of self.new) }
+        ensures whole { is_whole self.new ≡ is_whole self.old }
+        ensures count { count_of self.new ≡ count_of self.old }
+        ensures room { room_of self.new ≡ room_of self.old }
+        ensures probes { probes_of self.new ≡ capped (probes_of self.old) 1 }
+        ensures answers { IfErr result (λ e. e ≡ LogErr.Failed) }
+        ensures cause { Counts is_fault (S.store_faults (device_of self.old)) (S.store_faults (device_of self.new)) result }
+    {
+        self.probes = self.probes.saturating_add(1);
+        self.device.read_at(at, to)?;
+        Ok(())
     }
 
     /// Adds a frame, and answers its number. After `Failed` the store is to be opened again.
@@ -137,7 +254,8 @@ impl<S: StoreDevice> Log<S> {
 
         ensures room { room_of self.new ≤ room_of self.old }
         ensures limit { IsFullWhere result (room_for (entry kind key.now value.now)) (room_of self.old) }
-        ensures full { S.tells → IsFullWhere result (room_for (entry kind key.now value.now)) (LIMIT - ends (frames_in self.old)) }
+        ensures full { S.tells → IsFullWhere result (room_for (entry kind key.now value.now)) (store_limit - ends (frames_in self.old)) }
+        ensures probes { probes_of self.new ≡ probes_of self.old }
         ensures answers { IfErr result IsAppendErr }
         ensures cause { Counts is_fault (S.store_faults (device_of self.old)) (S.store_faults (device_of self.new)) result }
 
@@ -146,18 +264,52 @@ impl<S: StoreDevice> Log<S> {
             (IsBeforeOrAfter (frames_in self.old) (entry kind key.now value.now)) }
         ensures durable { S.tells → OnOk result (Only (S.content (device_of self.new)) (S.images (device_of self.new))) }
     {
-        let need = 10 + (key.len() as u64 + value.len() as u64);
+        self.append_all(alloc, &[NewFrame { kind, key, value }])
+    }
+
+    /// Adds frames, all of them or none, and answers the number of the first. After `Failed` the store is to be opened
+    /// again. The bytes are those of as many single appends, and the disk is waited for twice.
+    pub fn append_all(&mut self, alloc: Global, frames: &[NewFrame]) -> Result<u64, LogErr>
+        requires whole { IsTrue (is_whole self.old) }
+        requires known { AllKnown (new_entries frames.now) }
+        requires lengths { EachWithin (new_entries frames.now) }
+        requires form { S.tells → all_formed (frames_in self.old) (new_entries frames.now) ≡ true }
+
+        ensures frames { S.tells → OnOk result (frames_in self.new ≡ frames_in self.old ++ new_entries frames.now) }
+        // Whatever it answers, the frames are those before, or these and all the new ones.
+        ensures after { S.tells → (frames_in self.new ≡ frames_in self.old) ⊎ (frames_in self.new ≡ frames_in self.old ++ new_entries frames.now) }
+        ensures unchanged { S.tells → IfErr result (λ e. (e ≡ LogErr.Failed) ⊎ (frames_in self.new ≡ frames_in self.old)) }
+        ensures number { IfOk result (λ n. n ≡ count_of self.old) }
+        ensures count { OnOk result (count_of self.new ≡ count_of self.old + length frames.now) }
+        ensures same_count { OnErr result (count_of self.new ≡ count_of self.old) }
+        ensures whole { WholeAfter result (is_whole self.old) (is_whole self.new) }
+
+        ensures room { room_of self.new ≤ room_of self.old }
+        ensures limit { IsFullWhere result (room_for_all (new_entries frames.now)) (room_of self.old) }
+        ensures full { S.tells → IsFullWhere result (room_for_all (new_entries frames.now)) (store_limit - ends (frames_in self.old)) }
+        ensures probes { probes_of self.new ≡ probes_of self.old }
+        ensures answers { IfErr result IsAppendErr }
+        ensures cause { Counts is_fault (S.store_faults (device_of self.old)) (S.store_faults (device_of self.new)) result }
+
+        // Each image since the call began has the frames from before it, or these and all the new ones.
+        ensures images { S.tells → LeavesOnly S.moment S.images_since (device_of self.old) (device_of self.new)
+            (IsBeforeOrAll (frames_in self.old) (new_entries frames.now)) }
+        ensures durable { S.tells → OnOk result (Only (S.content (device_of self.new)) (S.images (device_of self.new))) }
+    {
+        let need = need_of_all(frames);
         let free = self.room();
         if need > free {
             return Err(LogErr::Full { need, free });
         }
-        self.offsets.reserve(1)?;
-        let number = self.offsets.len() as u64;
-        match write_frame(alloc, &mut self.device, self.end, kind, key, value) {
+        self.mark.seats.reserve(frames.len())?;
+        let number = self.mark.seats.len() as u64;
+        if frames.is_empty() {
+            return Ok(number);
+        }
+        match write_frames(alloc, &mut self.device, self.mark.end, frames) {
             Ok(()) => {
-                // There is room for it.
-                self.offsets.push(self.end + 1)?;
-                self.end += need;
+                // There is room for them.
+                self.mark.learn_all(frames)?;
                 Ok(number)
             }
             Err(StoreErr::Failed) => {

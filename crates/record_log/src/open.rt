@@ -1,23 +1,25 @@
 // Opening a device as a log.
-ghost use Rattle.std.specs.Prelude.{◌≡◌, ◌≤◌, ◌<◌, ◌^◌, ◌+◌, ◌-◌, List, ℕ, length, take, OnOk, IfOk, IfErr};
+ghost use Rattle.std.specs.Prelude.{◌==◌, [], get_or, ◌≡◌, ◌≤◌, ◌<◌, ◌^◌, ◌+◌, ◌-◌, List, ℕ, length, take, OnOk, IfOk, IfErr};
 ghost use Rattle.std.specs.Str.{bytes_eq};
 ghost use Rattle.rel_path.specs.Causes.{Counts};
 ghost use Rattle.store_dev.specs.Device.{Only, OnlyReads, LeavesOnly};
-ghost use Rattle.record_log.specs.Frames.{frames_of, reading, magic, IsOpenedAs, ReadsAsOneOf};
+ghost use Rattle.record_log.specs.Frames.{frames_of, reading, magic, IsOpenedAs, IsSound, ReadsAsOneOf, ReadsAsOneOrNone};
 ghost use Rattle.record_log.specs.Answers.{is_fault, IsOpenErr, IsReadErr, IsFaultOf};
-ghost use Rattle.record_log.specs.Kept.{Kept};
+ghost use Rattle.record_log.specs.Kept.{Kept, IsMarkOf};
 
 use crate::LogErr;
-use crate::scan::{Index, index_of};
+use crate::kind::{CLOSED, GATE, OPEN};
+use crate::mark::LogMark;
+use crate::scan::index_of;
 use crate::steps::put_synced;
 use std::alloc::Global;
 use store_dev::StoreDevice;
 
-// `TURBSTO1`
-const MAGIC: [u8; 8] = [84, 85, 82, 66, 83, 84, 79, 49];
+/// How a store begins.
+pub const MAGIC: [u8; 8] = *b"TURBSTO1";
 
-// The magic, and a gate that is closed.
-const EMPTY: [u8; 9] = [84, 85, 82, 66, 83, 84, 79, 49, 0];
+/// An empty store: the magic, and a gate that is closed.
+const EMPTY: [u8; 9] = *b"TURBSTO1\0";
 
 /// A sync, and how many bytes there are.
 fn settle<S: StoreDevice>(device: &mut S) -> Result<u64, LogErr>
@@ -44,11 +46,15 @@ fn has_magic<S: StoreDevice>(device: &mut S) -> Result<bool, LogErr>
     Ok(front.as_slice() == MAGIC.as_slice())
 }
 
-/// Finds the frames of a device, and writes an empty store where there are at most nine bytes. It syncs first, since
+/// Goes on from what is known of the frames of a device to all of them, and writes an empty store where there are at most nine bytes. It syncs first, since
 /// before that a crash may leave less than what is read.
-pub fn start<S: StoreDevice>(alloc: Global, device: &mut S) -> Result<Index, LogErr>
-    ensures kept { S.tells → IfOk result (λ index. Kept (S.content device.new) (S.images device.new) index.offsets.items index.end) }
-    ensures small { IfOk result (λ index. index.end < 2 ^ 64 - 1) }
+pub fn start<S: StoreDevice>(
+    alloc: Global,
+    device: &mut S,
+    mark: LogMark,
+) -> Result<LogMark, LogErr>
+    requires { S.tells → IsMarkOf mark (frames_of (S.content device.old)) }
+    ensures kept { S.tells → IfOk result (λ mark. Kept (S.content device.new) (S.images device.new) mark) }
     ensures opened { S.tells → OnOk result (IsOpenedAs (S.content device.old) (S.content device.new)) }
     ensures same { S.tells → 9 < length (S.content device.old) → S.content device.new ≡ S.content device.old }
     ensures fault { S.tells → IsFaultOf result (reading (S.content device.old)) }
@@ -57,16 +63,52 @@ pub fn start<S: StoreDevice>(alloc: Global, device: &mut S) -> Result<Index, Log
     ensures cause { Counts is_fault (S.store_faults device.old) (S.store_faults device.new) result }
 {
     let len = settle(device)?;
-    if len <= 9 {
+    if len <= GATE + 1 {
         put_synced(alloc, device, 0, &EMPTY)?;
-        return Ok(Index {
-            offsets: Vec::new(alloc),
-            end: 8,
-        });
+        return Ok(LogMark::new(alloc));
     }
     if !has_magic(device)? {
         return Err(LogErr::NotAStore);
     }
-    let index = index_of(alloc, device, len)?;
-    Ok(index)
+    // A device that does not tell its bytes may be shorter than it was.
+    if mark.end >= len {
+        return Err(LogErr::Damaged { at: mark.end + 1 });
+    }
+    let mark = index_of(alloc, device, len, mark)?;
+    Ok(mark)
+}
+
+/// Whether the first gate is open, of a device with more than nine bytes.
+fn first_is_open<S: StoreDevice>(device: &mut S) -> Result<bool, LogErr>
+    requires { S.tells → 9 < length (S.content device.old) }
+    ensures value { S.tells → IfOk result (λ b. b ≡ (get_or (S.content device.old) GATE 0 == 1)) }
+    ensures reads { OnlyReads S.content S.images S.moment S.images_since device.old device.new }
+    ensures answers { IfErr result IsReadErr }
+    ensures cause { Counts is_fault (S.store_faults device.old) (S.store_faults device.new) result }
+{
+    let mut gate = [0; 1];
+    device.read_at(GATE, &mut gate)?;
+    Ok(gate[0] == OPEN)
+}
+
+/// Closes the first gate of a store, so that none of its frames counts, and writes an empty store where there are at most
+/// nine bytes.
+pub fn clear<S: StoreDevice>(alloc: Global, device: &mut S) -> Result<LogMark, LogErr>
+    requires { S.tells → (c : List ℕ) → S.images device.old c → IsSound c }
+    ensures kept { S.tells → IfOk result (λ mark. Kept (S.content device.new) (S.images device.new) mark) }
+    ensures none { S.tells → OnOk result (frames_of (S.content device.new) ≡ []) }
+    ensures images { S.tells → LeavesOnly S.moment S.images_since device.old device.new (ReadsAsOneOrNone (S.images device.old)) }
+    ensures answers { IfErr result IsReadErr }
+    ensures cause { Counts is_fault (S.store_faults device.old) (S.store_faults device.new) result }
+{
+    let len = settle(device)?;
+    if len <= GATE + 1 {
+        put_synced(alloc, device, 0, &EMPTY)?;
+        return Ok(LogMark::new(alloc));
+    }
+    if !first_is_open(device)? {
+        return Ok(LogMark::new(alloc));
+    }
+    put_synced(alloc, device, GATE, &[CLOSED])?;
+    Ok(LogMark::new(alloc))
 }

@@ -3,10 +3,11 @@ ghost use Rattle.std.specs.Prelude.{◌≡◌, ◌≢◌, ◌≤◌, ◌<◌, �
 ghost use Rattle.rel_path.specs.Causes.{Counts};
 ghost use Rattle.store_dev.specs.Device.{Holds, Only, Torn, Elapses, LeavesOnly, SameWith, After};
 ghost use Rattle.store_dev.specs.Errors.{is_fault};
-ghost use Rattle.record_log.specs.Kinds.{entry, has_form, size};
-ghost use Rattle.record_log.specs.Frames.{AtRest, frames_of, IsBeforeOrAfter};
+ghost use Rattle.record_log.specs.Frames.{AtRest, frames_of, opened, all_formed};
+ghost use Rattle.record_log.specs.Batch.{new_entries, EachWithin, IsBeforeOrAll};
 
-use crate::frame::body_of;
+use crate::frame::{NewFrame, opened_bytes};
+use crate::kind::OPEN;
 use std::alloc::Global;
 use store_dev::{StoreDevice, StoreErr};
 
@@ -28,31 +29,29 @@ pub fn put_synced<S: StoreDevice>(
     device.sync()
 }
 
-/// Puts a frame behind the gate at that place, and then opens the gate.
-pub fn write_frame<S: StoreDevice>(
+/// Puts frames behind the gate at that place, all of them before the gate is opened.
+pub fn write_frames<S: StoreDevice>(
     alloc: Global,
     device: &mut S,
     end: u64,
-    kind: u8,
-    key: &[u8],
-    value: &[u8],
+    frames: &[NewFrame],
 ) -> Result<(), StoreErr>
-    requires narrow { kind ≢ 4 }
-    requires form { S.tells → has_form (frames_of (S.content device.old)) (entry kind key.now value.now) ≡ true }
-    requires key_len { length key.now < 2 ^ 32 }
-    requires value_len { length value.now < 2 ^ 32 }
-    requires room { end + (11 + (length key.now + length value.now)) ≤ 2 ^ 62 }
+    requires some { 0 < length frames.now }
+    requires form { S.tells → all_formed (frames_of (S.content device.old)) (new_entries frames.now) ≡ true }
+    requires short { EachWithin (new_entries frames.now) }
+    requires room { end + (length (opened (new_entries frames.now)) + 1) ≤ 2 ^ 62 }
     requires rest { S.tells → AtRest (S.content device.old) (frames_of (S.content device.old)) end }
     requires durable { S.tells → Only (S.content device.old) (S.images device.old) }
-    ensures written { S.tells → OnOk result (AtRest (S.content device.new) (frames_of (S.content device.old) ++ entry kind key.now value.now ∷ []) (end + (size (entry kind key.now value.now) + 1))) }
+    ensures written { S.tells → OnOk result (AtRest (S.content device.new) (frames_of (S.content device.old) ++ new_entries frames.now) (end + length (opened (new_entries frames.now)))) }
     ensures memory { S.tells → IsErrOf result StoreErr.OutOfMemory → AtRest (S.content device.new) (frames_of (S.content device.old)) end }
     ensures durable { S.tells → OnOk result (Only (S.content device.new) (S.images device.new)) }
     ensures memory_durable { S.tells → IsErrOf result StoreErr.OutOfMemory → Only (S.content device.new) (S.images device.new) }
-    ensures images { S.tells → LeavesOnly S.moment S.images_since device.old device.new (IsBeforeOrAfter (frames_of (S.content device.old)) (entry kind key.now value.now)) }
+    ensures images { S.tells → LeavesOnly S.moment S.images_since device.old device.new (IsBeforeOrAll (frames_of (S.content device.old)) (new_entries frames.now)) }
     ensures cause { Counts is_fault (S.store_faults device.old) (S.store_faults device.new) result }
 {
-    let body = body_of(alloc, kind, key, value)?;
-    put_synced(alloc, device, end + 1, &body)?;
-    put_synced(alloc, device, end, &[1])?;
+    let bytes = opened_bytes(alloc, frames)?;
+    let body = &bytes.as_slice()[1..];
+    put_synced(alloc, device, end + 1, body)?;
+    put_synced(alloc, device, end, &[OPEN])?;
     Ok(())
 }

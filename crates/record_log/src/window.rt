@@ -1,13 +1,13 @@
 // A device read in blocks.
-ghost use Rattle.std.specs.Prelude.{◌≡◌, ◌≤◌, ◌<◌, ◌↔◌, ◌+◌, ◌-◌, ◌^◌, List, ℕ, min, length, take, drop, get_or, IfOk, IfErr, OnOk, IfSome, IsTrue};
-ghost use Rattle.std.specs.Option.{option_map};
+ghost use Rattle.std.specs.Prelude.{true, ◌≡◌, ◌≤◌, ◌<◌, ◌↔◌, ◌+◌, ◌-◌, ◌^◌, List, ℕ, min, length, take, drop, get_or, IfOk, IfErr, OnOk, IfSome, IfNone, IsTrue};
 ghost use Rattle.rel_path.specs.Causes.{Counts};
 ghost use Rattle.store_dev.specs.Device.{OnlyReads};
-ghost use Rattle.record_log.specs.Kinds.{Entry, size, frame_at};
+ghost use Rattle.record_log.specs.Kinds.{Entry, lens_fit, frame_at};
 ghost use Rattle.record_log.specs.Answers.{is_fault, IsReadErr};
 
 use crate::LogErr;
-use crate::frame::{HEAD, frame_size};
+use crate::kind::{LONG_HEAD, OPEN};
+use crate::seat::{Seat, seat_at};
 use std::alloc::{AllocError, Global};
 use store_dev::StoreDevice;
 
@@ -23,6 +23,7 @@ pub struct Window {
 
 impl Window {
     ghost use Rattle.record_log.specs.Window.{Shows, Covers};
+    ghost use Rattle.record_log.specs.Seats.{IsLaid, seat_size};
 
     /// A window on nothing, with room for a block.
     pub fn new(alloc: Global) -> Result<Window, AllocError>
@@ -39,7 +40,7 @@ impl Window {
         requires len { S.tells → len ≡ length (S.content device.old) }
         requires shows { S.tells → Shows (S.content device.old) self.old }
         ensures shows { S.tells → OnOk result (Shows (S.content device.old) self.new) }
-        ensures covers { OnOk result (Covers self.new gate (min (1 + HEAD) (len - gate))) }
+        ensures covers { OnOk result (Covers self.new gate (min (1 + LONG_HEAD) (len - gate))) }
         ensures reads { OnlyReads S.content S.images S.moment S.images_since device.old device.new }
         ensures answers { IfErr result IsReadErr }
         ensures cause { Counts is_fault (S.store_faults device.old) (S.store_faults device.new) result }
@@ -47,7 +48,7 @@ impl Window {
         let left = len - gate;
         let end = self.at.saturating_add(self.bytes.len() as u64);
         if self.at <= gate {
-            if gate + left.min(1 + HEAD) <= end {
+            if gate + left.min(1 + LONG_HEAD) <= end {
                 return Ok(());
             }
         }
@@ -69,13 +70,13 @@ impl Window {
         requires shows { S.tells → Shows (S.content device.old) self.old }
         ensures value { S.tells → IfOk result (λ b. IsTrue b ↔ (get_or (S.content device.old) gate 0 ≡ 1)) }
         ensures shows { S.tells → OnOk result (Shows (S.content device.old) self.new) }
-        ensures covers { OnOk result (Covers self.new gate (min (1 + HEAD) (len - gate))) }
+        ensures covers { OnOk result (Covers self.new gate (min (1 + LONG_HEAD) (len - gate))) }
         ensures reads { OnlyReads S.content S.images S.moment S.images_since device.old device.new }
         ensures answers { IfErr result IsReadErr }
         ensures cause { Counts is_fault (S.store_faults device.old) (S.store_faults device.new) result }
     {
         self.show(device, gate, len)?;
-        Ok(self.from(gate)[0] == 1)
+        Ok(self.from(gate)[0] == OPEN)
     }
 
     /// The bytes that are shown from that place on.
@@ -86,13 +87,16 @@ impl Window {
         &self.bytes[(at - self.at) as usize..]
     }
 
-    /// The size of the frame behind the gate at that place, or `None` where no frame stands there.
-    pub fn frame_behind(&self, gate: u64, len: u64) -> Option<u64>
+    /// The seat of the frame behind the gate at that place, or `None` where no frame stands there.
+    pub fn seat_behind(&self, gate: u64, len: u64) -> Option<Seat>
         requires gate { gate < len }
-        requires covers { Covers self.now gate (min (1 + HEAD) (len - gate)) }
-        ensures size { (content : List ℕ) (before : List Entry) → Shows content self.now → len ≡ length content → option_map size (frame_at before (drop (gate + 1) content)) ≡ result }
-        ensures inside { IfSome result (λ n. gate + 1 + n < len) }
+        requires covers { Covers self.now gate (min (1 + LONG_HEAD) (len - gate)) }
+        ensures some { IfSome result (λ seat. (content : List ℕ) → Shows content self.now → len ≡ length content → IsLaid content seat) }
+        ensures none { IfNone result ((before : List Entry) (content : List ℕ) → Shows content self.now → len ≡ length content → frame_at before (drop (gate + 1) content) ≡ None) }
+        ensures place { IfSome result (λ seat. seat.at ≡ gate + 1) }
+        ensures lens { IfSome result (λ seat. lens_fit seat.kind seat.key_len seat.value_len ≡ true) }
+        ensures inside { IfSome result (λ seat. gate + (1 + seat_size seat) < len) }
     {
-        frame_size(self.from(gate + 1), len - gate - 1)
+        seat_at(self.from(gate + 1), gate + 1, len - gate - 1)
     }
 }

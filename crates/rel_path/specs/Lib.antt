@@ -1,4 +1,5 @@
 pub mod Paths
 pub mod Files
-pub mod Memory
+pub mod Held
 pub mod Causes
+pub mod Limits

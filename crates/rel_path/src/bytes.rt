@@ -3,10 +3,8 @@ ghost use Rattle.std.specs.Prelude.{◌≡◌, ℕ, List, IfOk, Some, nat_eq, re
 ghost use Rattle.std.specs.Cmp.{partial_equiv_from_equiv};
 ghost use Rattle.std.specs.Cmp.Lexicographic.{slice_cmp, pointwise, nat_list_cmp_total, nat_list_eq_equiv, texts_ties, texts_po};
 ghost use Rattle.std.specs.Ordering.{nat_cmp};
-ghost use Rattle.rel_path.specs.Memory.{OnlyMemory};
 
-use crate::PathErr;
-use std::alloc::Global;
+use std::alloc::{AllocError, Global};
 use std::cmp::Ordering;
 use std::marker::Model;
 
@@ -26,9 +24,8 @@ impl Model for Bytes {
 
 impl Bytes {
     /// A copy of the bytes.
-    pub fn read(alloc: Global, b: &[u8]) -> Result<Bytes, PathErr>
+    pub fn read(alloc: Global, b: &[u8]) -> Result<Bytes, AllocError>
         ensures value { IfOk result (λ bytes. bytes ≡ b.now) }
-        ensures memory { OnlyMemory result }
     {
         let inner = Vec::from_slice(alloc, b)?;
         Ok(Bytes { inner })
@@ -53,9 +50,8 @@ impl Bytes {
         self.inner
     }
 
-    pub fn copy(&self) -> Result<Bytes, PathErr>
+    pub fn copy(&self) -> Result<Bytes, AllocError>
         ensures value { IfOk result (λ copy. copy ≡ self.now) }
-        ensures memory { OnlyMemory result }
     {
         Ok(self.clone()?)
     }

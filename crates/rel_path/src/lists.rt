@@ -1,9 +1,9 @@
 // Small lists, which contracts see as the lists that they are.
 ghost use Rattle.std.specs.Prelude.{◌≡◌, ◌∷◌, ◌++◌, [], ℕ, List, IfOk, OnOk, OnErr};
-ghost use Rattle.rel_path.specs.Memory.{OnlyMemory};
 
-use crate::{Bytes, PathErr, RelPath, Text};
-use std::alloc::Global;
+use crate::held::Held;
+use crate::{Bytes, RelPath, Text};
+use std::alloc::{AllocError, Global};
 use std::marker::Model;
 
 /// Texts, in any order.
@@ -31,10 +31,9 @@ impl Texts {
     }
 
     /// Adds an item at the end. The list stays as it was where memory is wanting.
-    pub fn push(&mut self, item: Text) -> Result<(), PathErr>
+    pub fn push(&mut self, item: Text) -> Result<(), AllocError>
         ensures pushed { OnOk result (self.new ≡ self.old ++ item ∷ []) }
         ensures kept { OnErr result (self.new ≡ self.old) }
-        ensures memory { OnlyMemory result }
     {
         self.items.push(item)?;
         Ok(())
@@ -58,9 +57,8 @@ impl Texts {
         self.items
     }
 
-    pub fn copy(&self) -> Result<Texts, PathErr>
+    pub fn copy(&self) -> Result<Texts, AllocError>
         ensures value { IfOk result (λ copy. copy ≡ self.now) }
-        ensures memory { OnlyMemory result }
     {
         Ok(self.clone()?)
     }
@@ -69,7 +67,7 @@ impl Texts {
 /// Names with values.
 #[derive(Clone, Debug, Drop)]
 pub struct Pairs {
-    items: Vec<(Text, Text)>,
+    items: Held<(Text, Text)>,
 }
 
 impl Model for Pairs {
@@ -77,7 +75,9 @@ impl Model for Pairs {
 
     ghost Value = { List (List ℕ × List ℕ) };
 
-    ghost view = { λ l. l.items.items };
+    ghost use Rattle.rel_path.specs.Held.{items_of};
+
+    ghost view = { λ l. items_of l.items };
 }
 
 impl Pairs {
@@ -86,17 +86,23 @@ impl Pairs {
         ensures { result ≡ [] }
     {
         Pairs {
-            items: Vec::new(alloc),
+            items: Held::Own(Vec::new(alloc)),
         }
     }
 
     /// Adds an item at the end. The list stays as it was where memory is wanting.
-    pub fn push(&mut self, item: (Text, Text)) -> Result<(), PathErr>
+    pub fn push(&mut self, item: (Text, Text)) -> Result<(), AllocError>
         ensures pushed { OnOk result (self.new ≡ self.old ++ item ∷ []) }
         ensures kept { OnErr result (self.new ≡ self.old) }
-        ensures memory { OnlyMemory result }
     {
-        self.items.push(item)?;
+        match &mut self.items {
+            Held::Own(items) => items.push(item)?,
+            Held::Shared(items) => {
+                let mut own = copied_pairs(&**items)?;
+                own.push(item)?;
+                self.items.set(own);
+            }
+        }
         Ok(())
     }
 
@@ -109,21 +115,40 @@ impl Pairs {
     pub fn from_vec(items: Vec<(Text, Text)>) -> Pairs
         ensures { result ≡ items.items }
     {
-        Pairs { items }
+        Pairs {
+            items: Held::Own(items),
+        }
     }
 
-    pub fn into_vec(self) -> Vec<(Text, Text)>
-        ensures { result.items ≡ self }
+    /// The items themselves, copied where copies of the list share them.
+    pub fn into_vec(self) -> Result<Vec<(Text, Text)>, AllocError>
+        ensures { IfOk result (λ items. items.items ≡ self) }
     {
-        self.items
+        match self.items.unshared() {
+            Ok(items) => Ok(items),
+            Err(items) => copied_pairs(&*items),
+        }
     }
 
-    pub fn copy(&self) -> Result<Pairs, PathErr>
+    /// The same list, whose copies from now on share its items.
+    pub fn share(self, alloc: Global) -> Result<Pairs, AllocError>
+        ensures { IfOk result (λ shared. shared ≡ self) }
+    {
+        let items = self.items.share(alloc)?;
+        Ok(Pairs { items })
+    }
+
+    pub fn copy(&self) -> Result<Pairs, AllocError>
         ensures value { IfOk result (λ copy. copy ≡ self.now) }
-        ensures memory { OnlyMemory result }
     {
         Ok(self.clone()?)
     }
+}
+
+fn copied_pairs(items: &Vec<(Text, Text)>) -> Result<Vec<(Text, Text)>, AllocError>
+    ensures { IfOk result (λ copy. copy.items ≡ items.now.items) }
+{
+    Ok(items.clone()?)
 }
 
 /// Paths, in any order.
@@ -151,10 +176,9 @@ impl Paths {
     }
 
     /// Adds an item at the end. The list stays as it was where memory is wanting.
-    pub fn push(&mut self, item: RelPath) -> Result<(), PathErr>
+    pub fn push(&mut self, item: RelPath) -> Result<(), AllocError>
         ensures pushed { OnOk result (self.new ≡ self.old ++ item ∷ []) }
         ensures kept { OnErr result (self.new ≡ self.old) }
-        ensures memory { OnlyMemory result }
     {
         self.items.push(item)?;
         Ok(())
@@ -178,9 +202,8 @@ impl Paths {
         self.items
     }
 
-    pub fn copy(&self) -> Result<Paths, PathErr>
+    pub fn copy(&self) -> Result<Paths, AllocError>
         ensures value { IfOk result (λ copy. copy ≡ self.now) }
-        ensures memory { OnlyMemory result }
     {
         Ok(self.clone()?)
     }
@@ -211,10 +234,9 @@ impl Files {
     }
 
     /// Adds an item at the end. The list stays as it was where memory is wanting.
-    pub fn push(&mut self, item: (RelPath, Bytes)) -> Result<(), PathErr>
+    pub fn push(&mut self, item: (RelPath, Bytes)) -> Result<(), AllocError>
         ensures pushed { OnOk result (self.new ≡ self.old ++ item ∷ []) }
         ensures kept { OnErr result (self.new ≡ self.old) }
-        ensures memory { OnlyMemory result }
     {
         self.items.push(item)?;
         Ok(())
@@ -238,9 +260,8 @@ impl Files {
         self.items
     }
 
-    pub fn copy(&self) -> Result<Files, PathErr>
+    pub fn copy(&self) -> Result<Files, AllocError>
         ensures value { IfOk result (λ copy. copy ≡ self.now) }
-        ensures memory { OnlyMemory result }
     {
         Ok(self.clone()?)
     }
@@ -271,10 +292,9 @@ impl Places {
     }
 
     /// Adds an item at the end. The list stays as it was where memory is wanting.
-    pub fn push(&mut self, item: u32) -> Result<(), PathErr>
+    pub fn push(&mut self, item: u32) -> Result<(), AllocError>
         ensures pushed { OnOk result (self.new ≡ self.old ++ item ∷ []) }
         ensures kept { OnErr result (self.new ≡ self.old) }
-        ensures memory { OnlyMemory result }
     {
         self.items.push(item)?;
         Ok(())
@@ -298,9 +318,8 @@ impl Places {
         self.items
     }
 
-    pub fn copy(&self) -> Result<Places, PathErr>
+    pub fn copy(&self) -> Result<Places, AllocError>
         ensures value { IfOk result (λ copy. copy ≡ self.now) }
-        ensures memory { OnlyMemory result }
     {
         Ok(self.clone()?)
     }

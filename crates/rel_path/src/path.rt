@@ -5,11 +5,10 @@ ghost use Rattle.std.specs.Cmp.{partial_equiv_from_equiv};
 ghost use Rattle.std.specs.Cmp.Lexicographic.{slice_cmp, slice_partial_cmp, pointwise, nat_list_cmp_total, nat_list_eq_equiv, lists_total, lists_equiv, lists_ties, lists_po, lists_agrees, texts_ties, texts_po};
 ghost use Rattle.std.specs.Ordering.{nat_cmp};
 ghost use Rattle.std.specs.Prelude.{refl};
-ghost use Rattle.rel_path.specs.Memory.{OnlyMemory};
 ghost use Rattle.rel_path.specs.Paths.{is_slash, is_component, part_fault, name_fault, text_fault, parts_of, MayRefuse, AreNames, IsBelow};
 
 use crate::{PathErr, Text};
-use std::alloc::Global;
+use std::alloc::{AllocError, Global};
 use std::cmp::Ordering;
 use std::marker::Model;
 
@@ -73,9 +72,8 @@ pub fn is_component(name: &str) -> bool
     name_fault(name).is_none()
 }
 
-fn with_last(parts: &Vec<Text>, name: &Text) -> Result<Vec<Text>, PathErr>
+fn with_last(parts: &Vec<Text>, name: &Text) -> Result<Vec<Text>, AllocError>
     ensures value { IfOk result (λ all. all.items ≡ parts.now.items ++ name.now ∷ []) }
-    ensures memory { OnlyMemory result }
 {
     let mut all = parts.clone()?;
     all.push(name.copy()?)?;
@@ -122,10 +120,9 @@ impl RelPath {
     }
 
     /// The components with a slash between each two. Every path but the root reads back.
-    pub fn text(&self, alloc: Global) -> Result<Text, PathErr>
+    pub fn text(&self, alloc: Global) -> Result<Text, AllocError>
         ensures value { IfOk result (λ text. text ≡ join_with_byte 47 self.now) }
         ensures back { IfOk result (λ text. self.now ≢ [] → (text_fault text ≡ None) × (parts_of text ≡ self.now)) }
-        ensures memory { OnlyMemory result }
     {
         let mut inner = String::new(alloc);
         let path = self.components();
@@ -152,10 +149,9 @@ impl RelPath {
     }
 
     /// The path with one more component, which is known to be one.
-    pub fn child(&self, name: &Text) -> Result<RelPath, PathErr>
+    pub fn child(&self, name: &Text) -> Result<RelPath, AllocError>
         requires { IsTrue (is_component name.now) }
         ensures value { IfOk result (λ path. path ≡ self.now ++ name.now ∷ []) }
-        ensures memory { OnlyMemory result }
     {
         let parts = with_last(&self.parts, name)?;
         Ok(RelPath { parts })
@@ -170,9 +166,8 @@ impl RelPath {
         path.len() > folder.len() && path.starts_with(folder)
     }
 
-    pub fn copy(&self) -> Result<RelPath, PathErr>
+    pub fn copy(&self) -> Result<RelPath, AllocError>
         ensures value { IfOk result (λ copy. copy ≡ self.now) }
-        ensures memory { OnlyMemory result }
     {
         Ok(self.clone()?)
     }

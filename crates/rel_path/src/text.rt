@@ -3,10 +3,8 @@ ghost use Rattle.std.specs.Prelude.{◌≡◌, ℕ, List, IfOk, Some, nat_eq, re
 ghost use Rattle.std.specs.Cmp.{partial_equiv_from_equiv};
 ghost use Rattle.std.specs.Cmp.Lexicographic.{slice_cmp, pointwise, nat_list_cmp_total, nat_list_eq_equiv, texts_ties, texts_po};
 ghost use Rattle.std.specs.Ordering.{nat_cmp};
-ghost use Rattle.rel_path.specs.Memory.{OnlyMemory};
 
-use crate::PathErr;
-use std::alloc::Global;
+use std::alloc::{AllocError, Global};
 use std::cmp::Ordering;
 use std::marker::Model;
 
@@ -26,9 +24,8 @@ impl Model for Text {
 
 impl Text {
     /// A copy of the text.
-    pub fn read(alloc: Global, s: &str) -> Result<Text, PathErr>
+    pub fn read(alloc: Global, s: &str) -> Result<Text, AllocError>
         ensures value { IfOk result (λ text. text ≡ s.now) }
-        ensures memory { OnlyMemory result }
     {
         let inner = String::from_str(alloc, s)?;
         Ok(Text { inner })
@@ -53,9 +50,8 @@ impl Text {
         self.inner
     }
 
-    pub fn copy(&self) -> Result<Text, PathErr>
+    pub fn copy(&self) -> Result<Text, AllocError>
         ensures value { IfOk result (λ copy. copy ≡ self.now) }
-        ensures memory { OnlyMemory result }
     {
         Ok(self.clone()?)
     }

@@ -4,7 +4,7 @@ use Rattle.std.specs.Prelude.{Option, Some, None, Result, Ok, Err}
 use Rattle.rel_path.specs.Paths.{Path}
 use Rattle.rel_path.specs.Files.{FileMap}
 use Rattle.turbo_config.specs.declared.files.PackageConfig.{PackageConfig}
-use Rattle.page.specs.declared.refusal.Refusal.{Refusal}
+use Rattle.refusals.specs.declared.refusal.Refusal.{Refusal}
 use Rattle.repository.specs.declared.error.RepositoryErr.{RepositoryErr}
 use Rattle.repository.specs.declared.error.RepositoryErr.TheVariants.{Refused, Failed, OutOfMemory}
 use Rattle.repository.specs.Reading.{package_config, package_configs, and_more}

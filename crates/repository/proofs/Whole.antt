@@ -8,7 +8,7 @@ use Rattle.manifest.specs.declared.manifest.Manifest.{Manifest}
 use Rattle.workspaces.specs.declared.error.SpaceErr.{SpaceErr}
 use Rattle.workspaces.specs.Space.{Space, space_of}
 use Rattle.turbo_config.specs.Setup.{Setup}
-use Rattle.page.specs.declared.refusal.Refusal.{Refusal}
+use Rattle.refusals.specs.declared.refusal.Refusal.{Refusal}
 use Rattle.repository.specs.declared.error.RepositoryErr.{RepositoryErr}
 use Rattle.repository.specs.declared.error.RepositoryErr.TheVariants.{Refused, Failed, OutOfMemory}
 use Rattle.repository.specs.Steps.{After, IsRefusal, space_refusal}

@@ -15,8 +15,8 @@ use Rattle.tree_walk.specs.Walked.{Walks}
 use Rattle.workspaces.specs.declared.error.SpaceErr.{SpaceErr}
 use Rattle.workspaces.specs.declared.error.SpaceErr.TheVariants as space
 use Rattle.workspaces.specs.Space.{Space}
-use Rattle.page.specs.declared.refusal.Refusal.{Refusal}
-use Rattle.page.specs.declared.refusal.Refusal.TheVariants as refusal
+use Rattle.refusals.specs.declared.refusal.Refusal.{Refusal}
+use Rattle.refusals.specs.declared.refusal.Refusal.TheVariants as refusal
 use Rattle.repository.specs.declared.error.RepositoryErr.{RepositoryErr}
 use Rattle.repository.specs.declared.error.RepositoryErr.TheVariants.{Refused, Failed, OutOfMemory}
 use Rattle.repository.specs.declared.repository.Repository.{Repository}

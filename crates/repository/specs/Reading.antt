@@ -21,14 +21,15 @@ use Rattle.tree_walk.specs.Walked.{Walks}
 use Rattle.workspaces.specs.declared.member.Package.{Package}
 use Rattle.workspaces.specs.declared.error.SpaceErr.{SpaceErr}
 use Rattle.workspaces.specs.Lists.{ascending}
-use Rattle.workspaces.specs.Space.{Space, space_of, file_limit, manifest_name}
+use Rattle.workspaces.specs.Space.{Space, space_of, manifest_name}
+use Rattle.rel_path.specs.Limits.{file_limit}
 use Rattle.turbo_config.specs.declared.files.PackageConfig.{PackageConfig}
 use Rattle.turbo_config.specs.declared.error.ConfigErr.{ConfigErr}
 use Rattle.turbo_config.specs.RootFile.{RootFile}
 use Rattle.turbo_config.specs.Files.{root_of, package_of}
 use Rattle.turbo_config.specs.Setup.{Setup, setup_of}
-use Rattle.page.specs.declared.refusal.Refusal.{Refusal}
-use Rattle.page.specs.declared.refusal.Refusal.TheVariants as refusal
+use Rattle.refusals.specs.declared.refusal.Refusal.{Refusal}
+use Rattle.refusals.specs.declared.refusal.Refusal.TheVariants as refusal
 use Rattle.repository.specs.declared.repository.Repository.{Repository}
 use Rattle.repository.specs.Steps.{After, IsRefusal, at_root, walk_refusal, space_refusal, config_refusal}
 

@@ -1,8 +1,8 @@
 -- Steps that end in a value or in a refusal.
 use Rattle.std.specs.Prelude.{◌≡◌, ℕ, List, [], ◌∷◌, Option, Some, None, Result, Ok, Err}
 use Rattle.rel_path.specs.Paths.{Path}
-use Rattle.page.specs.declared.refusal.Refusal.{Refusal}
-use Rattle.page.specs.declared.refusal.Refusal.TheVariants as refusal
+use Rattle.refusals.specs.declared.refusal.Refusal.{Refusal}
+use Rattle.refusals.specs.declared.refusal.Refusal.TheVariants as refusal
 use Rattle.turbo_config.specs.declared.error.ConfigErr.{ConfigErr}
 use Rattle.turbo_config.specs.declared.error.ConfigErr.TheVariants as config
 use Rattle.tree_walk.specs.declared.error.WalkErr.{WalkErr}

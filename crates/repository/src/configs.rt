@@ -9,8 +9,8 @@ ghost use Rattle.repository.specs.Reading.{config_in, config_at, root_config, pa
 ghost use Rattle.repository.specs.Answers.{Answers, AnswersAs, config_stop, named};
 
 use crate::RepositoryErr;
-use crate::root_manifest::FILE_LIMIT;
-use page::Refusal;
+use refusals::Refusal;
+use rel_path::limits::MAX_FILE_BYTES;
 use rel_path::{RelPath, Text, Texts};
 use std::alloc::Global;
 use std::collections::BTreeMap;
@@ -82,7 +82,7 @@ fn root_config<T: Tree>(alloc: Global, tree: &mut T) -> Result<Option<RootConfig
         Ok(path) => path,
         Err(_) => return Err(RepositoryErr::OutOfMemory),
     };
-    match tree.read(alloc, &path, FILE_LIMIT) {
+    match tree.read(alloc, &path, MAX_FILE_BYTES) {
         Ok(found) => root_config_at(alloc, path, found),
         Err(DevErr::Failed) => Err(RepositoryErr::Failed),
         Err(DevErr::OutOfMemory) => Err(RepositoryErr::OutOfMemory),
@@ -105,7 +105,7 @@ fn package_config<T: Tree>(
         Ok(path) => path,
         Err(_) => return Err(RepositoryErr::OutOfMemory),
     };
-    match tree.read(alloc, &path, FILE_LIMIT) {
+    match tree.read(alloc, &path, MAX_FILE_BYTES) {
         Ok(found) => package_config_at(alloc, path, found),
         Err(DevErr::Failed) => Err(RepositoryErr::Failed),
         Err(DevErr::OutOfMemory) => Err(RepositoryErr::OutOfMemory),

@@ -2,8 +2,7 @@
 ghost use Rattle.std.specs.Prelude.{◌≡◌};
 ghost use Rattle.repository.specs.declared.error.RepositoryErr.TheVariants.{OutOfMemory};
 
-use page::Refusal;
-use rel_path::PathErr;
+use refusals::Refusal;
 use std::alloc::{AllocError, AllocFailed};
 use thiserror::Error;
 
@@ -32,15 +31,6 @@ impl<T: Drop> From<AllocFailed<T>> for RepositoryErr {
     ghost from_gives = { λ _ e. e ≡ OutOfMemory };
 
     fn from(_error: AllocFailed<T>) -> RepositoryErr {
-        RepositoryErr::OutOfMemory
-    }
-}
-
-// For calls whose only error is want of memory.
-impl From<PathErr> for RepositoryErr {
-    ghost from_gives = { λ _ e. e ≡ OutOfMemory };
-
-    fn from(_error: PathErr) -> RepositoryErr {
         RepositoryErr::OutOfMemory
     }
 }

@@ -10,11 +10,11 @@ ghost use Rattle.repository.specs.Reading.{lock_name, lock_from, lockfile};
 ghost use Rattle.repository.specs.Answers.{AnswersAs, lock_stop};
 
 use crate::RepositoryErr;
-use crate::root_manifest::FILE_LIMIT;
 use lock_entries::LockErr;
 use npm_lock::Lock;
-use page::Refusal;
+use refusals::Refusal;
 use rel_path::RelPath;
+use rel_path::limits::MAX_FILE_BYTES;
 use std::alloc::Global;
 use tree_dev::{DevErr, Found, Tree};
 
@@ -55,7 +55,7 @@ pub(crate) fn lockfile<T: Tree>(alloc: Global, tree: &mut T) -> Result<Option<Lo
         Ok(path) => path,
         Err(_) => return Err(RepositoryErr::OutOfMemory),
     };
-    match tree.read(alloc, &path, FILE_LIMIT) {
+    match tree.read(alloc, &path, MAX_FILE_BYTES) {
         Ok(found) => lock_from(alloc, path, found),
         Err(DevErr::Failed) => Err(RepositoryErr::Failed),
         Err(DevErr::OutOfMemory) => Err(RepositoryErr::OutOfMemory),

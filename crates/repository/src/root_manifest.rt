@@ -11,13 +11,11 @@ ghost use Rattle.repository.specs.Answers.{Answers, manifest_stop};
 
 use crate::RepositoryErr;
 use manifest::{Manifest, ManifestErr};
-use page::Refusal;
+use refusals::Refusal;
 use rel_path::RelPath;
+use rel_path::limits::MAX_FILE_BYTES;
 use std::alloc::Global;
 use tree_dev::{DevErr, Found, Tree};
-
-/// The most bytes of a file that is read: 16 MiB.
-pub(crate) const FILE_LIMIT: u64 = 16_777_216;
 
 fn manifest_refused(path: RelPath, fault: ManifestErr) -> RepositoryErr
     ensures { result ≡ manifest_stop path fault }
@@ -58,7 +56,7 @@ pub(crate) fn root_manifest<T: Tree>(alloc: Global, tree: &mut T) -> Result<Mani
         Ok(path) => path,
         Err(_) => return Err(RepositoryErr::OutOfMemory),
     };
-    match tree.read(alloc, &path, FILE_LIMIT) {
+    match tree.read(alloc, &path, MAX_FILE_BYTES) {
         Ok(found) => root_from(alloc, path, found),
         Err(DevErr::Failed) => Err(RepositoryErr::Failed),
         Err(DevErr::OutOfMemory) => Err(RepositoryErr::OutOfMemory),

@@ -11,7 +11,7 @@ ghost use Rattle.repository.specs.Answers.{AnswersWalk, AnswersSpace, walk_stop,
 
 use crate::RepositoryErr;
 use manifest::Manifest;
-use page::Refusal;
+use refusals::Refusal;
 use rel_path::{Paths, RelPath};
 use std::alloc::Global;
 use tree_dev::Tree;

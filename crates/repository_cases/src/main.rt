@@ -11,7 +11,7 @@ mod packages_section;
 mod page_section;
 mod planning;
 mod plans_section;
-mod refusals;
+mod refusal_answers;
 mod repositories;
 mod repository_section;
 

@@ -1,12 +1,10 @@
 // The page: blocks, summaries, and the lines of refusals and failed devices.
-use crate::refusals::refusal_of;
+use crate::refusal_answers::refusal_of;
 use crate::repositories::{fails_of, task_of, tasks_of};
 use anyhow::{Result, bail};
 use case_files::{answers, inputs};
-use page::{
-    DeviceFault, DryMark, Mark, Note, PageErr, block, device_fault_text, dry_block, emit,
-    fault_text, summary,
-};
+use page::{DryMark, Mark, Note, PageErr, block, dry_block, emit, summary};
+use refusals::{DeviceFault, device_fault_text, fault_text};
 use rel_path::Text;
 use serde_json::{Value, json};
 use std::alloc::Global;

@@ -1,5 +1,6 @@
 // The plan that a case asks for.
 ghost use Rattle.std.specs.Prelude.{◌≡◌, ◌<◌, ◌≤◌, false, IfOk};
+ghost use Rattle.rel_path.specs.Limits.{width_limit};
 ghost use Rattle.rel_path.specs.Paths.{Path};
 ghost use Rattle.tree_walk.specs.Walked.{IsWalk};
 
@@ -7,17 +8,15 @@ use crate::repositories::files_of;
 use anyhow::{Result, bail};
 use case_files::inputs;
 use cli_words::{Order, RunOrder};
-use page::Refusal;
 use planner::{PlannerErr, plan_run};
+use refusals::Refusal;
 use rel_path::Text;
+use rel_path::limits::MAX_WIDTH;
 use repository::{Repository, RepositoryErr, read_repository};
 use run_plan::Plan;
 use serde_json::Value;
 use std::alloc::Global;
 use tree_dev::{MemTree, Tree};
-
-// What `--concurrency` is at most.
-const WIDEST: u32 = 1024;
 
 /// The plan, or why there is none.
 #[derive(Drop)]
@@ -37,13 +36,13 @@ fn tree_of(alloc: Global, case: &Value) -> Result<MemTree>
 
 fn order_of(alloc: Global, case: &Value) -> Result<RunOrder>
     ensures wide { IfOk result (λ order. 0 < order.width) }
-    ensures narrow { IfOk result (λ order. order.width ≤ 1024) }
+    ensures narrow { IfOk result (λ order. order.width ≤ width_limit) }
 {
     let words = inputs::texts(alloc, case, "words")?;
     let Order::Run(order) = Order::read(alloc, words.as_slice())? else {
         bail!("the words are no run");
     };
-    if order.width == 0 || WIDEST < order.width {
+    if order.width == 0 || MAX_WIDTH < order.width {
         bail!("no width");
     }
     Ok(order)
@@ -72,7 +71,7 @@ fn plan_in<T: Tree>(
     requires none { (path : Path) → (T.state tree.old).held path ≡ false }
     requires walk { IsWalk repository.now.walk }
     requires wide { 0 < order.now.width }
-    requires narrow { order.now.width ≤ 1024 }
+    requires narrow { order.now.width ≤ width_limit }
 {
     match plan_run(alloc, tree, repository, order, env) {
         Ok(plan) => Answer::Planned(plan),
@@ -89,7 +88,7 @@ fn planned_in<T: Tree>(
 ) -> Answer
     requires none { (path : Path) → (T.state tree.old).held path ≡ false }
     requires wide { 0 < order.now.width }
-    requires narrow { order.now.width ≤ 1024 }
+    requires narrow { order.now.width ≤ width_limit }
 {
     match repository_in(alloc, tree) {
         Ok(repository) => plan_in(alloc, tree, &repository, order, env),

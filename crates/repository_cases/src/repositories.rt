@@ -1,7 +1,7 @@
 // Repositories in memory, as cases write them.
 use anyhow::{Result, bail};
 use case_files::{answers, inputs};
-use page::{Refusal, fault_text};
+use refusals::{Refusal, fault_text};
 use rel_path::{Bytes, Files, Text};
 use repository::{Repository, RepositoryErr, read_repository};
 use serde_json::{Value, json};

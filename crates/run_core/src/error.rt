@@ -2,7 +2,6 @@
 ghost use Rattle.std.specs.Prelude.{◌≡◌};
 ghost use Rattle.run_core.specs.declared.error.CoreErr.TheVariants.{OutOfMemory};
 
-use rel_path::PathErr;
 use std::alloc::{AllocError, AllocFailed};
 use thiserror::Error;
 
@@ -25,15 +24,6 @@ impl<T: Drop> From<AllocFailed<T>> for CoreErr {
     ghost from_gives = { λ _ e. e ≡ OutOfMemory };
 
     fn from(_error: AllocFailed<T>) -> CoreErr {
-        CoreErr::OutOfMemory
-    }
-}
-
-// Lists of places fail for want of memory alone.
-impl From<PathErr> for CoreErr {
-    ghost from_gives = { λ _ e. e ≡ OutOfMemory };
-
-    fn from(_error: PathErr) -> CoreErr {
         CoreErr::OutOfMemory
     }
 }

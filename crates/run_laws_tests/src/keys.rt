@@ -1,6 +1,5 @@
 // The closure of a task as a plain program. It is slow, and it is the definition.
 ghost use Rattle.std.specs.Prelude.{◌≡◌, ◌≤◌, ◌++◌, ◌∷◌, [], map, filter, IfOk, OnOk};
-ghost use Rattle.rel_path.specs.Memory.{OnlyMemory};
 ghost use Rattle.run_laws.specs.Picks.{rank};
 ghost use Rattle.run_laws.specs.Closures.{names, renumbered, sub_parts, in_closure, closure};
 ghost use Rattle.run_laws_tests.specs.Walks.{parts_from};
@@ -8,8 +7,8 @@ ghost use Rattle.run_laws_tests.specs.Walks.{parts_from};
 use crate::program::{has_input, is_above};
 use globs::OutSet;
 use listing::{Listing, Part, Parts};
-use rel_path::{Bytes, Files, PathErr, Places, RelPath};
-use std::alloc::Global;
+use rel_path::{Bytes, Files, Places, RelPath};
+use std::alloc::{AllocError, Global};
 
 fn is_kept(listing: &Listing, place: usize, other: usize) -> bool
     ensures { result ≡ in_closure listing.now place other }
@@ -36,9 +35,8 @@ fn places_in(
     listing: &Listing,
     place: usize,
     deps: &[u32],
-) -> Result<Places, PathErr>
+) -> Result<Places, AllocError>
     ensures places { IfOk result (λ places. places ≡ map (rank (in_closure listing.now place)) deps.now) }
-    ensures memory { OnlyMemory result }
 {
     let mut places = Places::new(alloc);
     for dep in deps {
@@ -47,19 +45,17 @@ fn places_in(
     Ok(places)
 }
 
-fn outs_of(part: &Part) -> Result<OutSet, PathErr>
+fn outs_of(part: &Part) -> Result<OutSet, AllocError>
     ensures value { IfOk result (λ outs. outs ≡ part.now.outs) }
-    ensures memory { OnlyMemory result }
 {
     match part.outs.copy() {
         Ok(outs) => Ok(outs),
-        Err(_) => Err(PathErr::OutOfMemory),
+        Err(_) => Err(AllocError),
     }
 }
 
-fn part_in(alloc: Global, listing: &Listing, place: usize, part: &Part) -> Result<Part, PathErr>
+fn part_in(alloc: Global, listing: &Listing, place: usize, part: &Part) -> Result<Part, AllocError>
     ensures value { IfOk result (λ copy. copy ≡ renumbered (in_closure listing.now place) part.now) }
-    ensures memory { OnlyMemory result }
 {
     Ok(Part {
         package: part.package.copy()?,
@@ -75,19 +71,17 @@ fn part_in(alloc: Global, listing: &Listing, place: usize, part: &Part) -> Resul
     })
 }
 
-fn push_part(parts: &mut Parts, part: Part) -> Result<(), PathErr>
+fn push_part(parts: &mut Parts, part: Part) -> Result<(), AllocError>
     ensures pushed { OnOk result (parts.new ≡ parts.old ++ part ∷ []) }
-    ensures memory { OnlyMemory result }
 {
     match parts.push(part) {
         Ok(()) => Ok(()),
-        Err(_) => Err(PathErr::OutOfMemory),
+        Err(_) => Err(AllocError),
     }
 }
 
-fn parts_in(alloc: Global, listing: &Listing, place: usize) -> Result<Parts, PathErr>
+fn parts_in(alloc: Global, listing: &Listing, place: usize) -> Result<Parts, AllocError>
     ensures parts { IfOk result (λ parts. parts ≡ parts_from (in_closure listing.now place) 0 listing.now.parts) }
-    ensures memory { OnlyMemory result }
 {
     let mut parts = Parts::new(alloc);
     for (other, part) in listing.parts.as_slice().iter().enumerate() {
@@ -104,9 +98,8 @@ fn names(parts: &[Part], path: &RelPath) -> bool
     parts.iter().any(|part| has_input(part, path))
 }
 
-fn files_in(alloc: Global, files: &[(RelPath, Bytes)], parts: &[Part]) -> Result<Files, PathErr>
+fn files_in(alloc: Global, files: &[(RelPath, Bytes)], parts: &[Part]) -> Result<Files, AllocError>
     ensures files { IfOk result (λ kept. kept ≡ filter (λ f. names parts.now f.0) files.now) }
-    ensures memory { OnlyMemory result }
 {
     let mut kept = Files::new(alloc);
     for file in files {
@@ -118,9 +111,8 @@ fn files_in(alloc: Global, files: &[(RelPath, Bytes)], parts: &[Part]) -> Result
 }
 
 /// The listing of the task at the place and its ancestors.
-pub fn closure(alloc: Global, listing: &Listing, place: usize) -> Result<Listing, PathErr>
+pub fn closure(alloc: Global, listing: &Listing, place: usize) -> Result<Listing, AllocError>
     ensures value { IfOk result (λ part. part ≡ closure listing.now place) }
-    ensures memory { OnlyMemory result }
 {
     let parts = parts_in(alloc, listing, place)?;
     let files = files_in(alloc, listing.files.as_slice(), parts.as_slice())?;

@@ -2,7 +2,6 @@
 ghost use Rattle.std.specs.Prelude.{◌≡◌, ◌++◌, ◌<◌, List, [], length, slice_get, IfOk, OnOk, Some, None, option_map, unwrap_or, if◌then◌else◌};
 ghost use Rattle.std.specs.List.{list_any};
 ghost use Rattle.rel_path.specs.Files.{file_at};
-ghost use Rattle.rel_path.specs.Memory.{OnlyMemory};
 ghost use Rattle.rel_path.specs.Paths.{is_among};
 ghost use Rattle.globs.specs.Outputs.{takes};
 ghost use Rattle.run_laws.specs.declared.outcome.Outcome.{Outcome};
@@ -14,9 +13,9 @@ ghost use Rattle.run_laws_tests.specs.Books.{piece_bytes, pieces_bytes, files_of
 
 use crate::book::{Piece, Rule, Write};
 use listing::{Listing, Part};
-use rel_path::{Bytes, Files, PathErr, RelPath};
+use rel_path::{Bytes, Files, RelPath};
 use run_laws::{Effect, Mode, Outcome};
-use std::alloc::Global;
+use std::alloc::{AllocError, Global};
 
 // ---- ancestors
 
@@ -155,9 +154,8 @@ fn push_file(
     place: usize,
     outcomes: &[Outcome],
     path: &RelPath,
-) -> Result<(), PathErr>
+) -> Result<(), AllocError>
     ensures bytes { OnOk result (to.new.items ≡ to.old.items ++ unwrap_or ((seen listing.now place outcomes.now).files path.now) []) }
-    ensures memory { OnlyMemory result }
 {
     match seen_at(listing, place, outcomes, path) {
         Some(bytes) => to.extend_from_slice(bytes.as_slice())?,
@@ -172,9 +170,8 @@ fn push_piece(
     place: usize,
     outcomes: &[Outcome],
     piece: &Piece,
-) -> Result<(), PathErr>
+) -> Result<(), AllocError>
     ensures bytes { OnOk result (to.new.items ≡ to.old.items ++ piece_bytes (seen listing.now place outcomes.now) piece.now) }
-    ensures memory { OnlyMemory result }
 {
     match piece {
         Piece::Lit(bytes) => to.extend_from_slice(bytes.as_slice())?,
@@ -189,9 +186,8 @@ fn bytes_of(
     place: usize,
     outcomes: &[Outcome],
     pieces: &[Piece],
-) -> Result<Bytes, PathErr>
+) -> Result<Bytes, AllocError>
     ensures bytes { IfOk result (λ bytes. bytes ≡ pieces_bytes (seen listing.now place outcomes.now) pieces.now) }
-    ensures memory { OnlyMemory result }
 {
     let mut bytes = Vec::new(alloc);
     for piece in pieces {
@@ -230,10 +226,9 @@ fn files_of(
     place: usize,
     outcomes: &[Outcome],
     writes: &[Write],
-) -> Result<Files, PathErr>
+) -> Result<Files, AllocError>
     requires { place < length listing.now.parts }
     ensures files { IfOk result (λ files. files ≡ files_of (seen listing.now place outcomes.now) writes.now) }
-    ensures memory { OnlyMemory result }
 {
     let mut files = Files::new(alloc);
     for write in writes {
@@ -251,10 +246,9 @@ fn effect_at(
     listing: &Listing,
     place: usize,
     outcomes: &[Outcome],
-) -> Result<Effect, PathErr>
+) -> Result<Effect, AllocError>
     requires { place < length listing.now.parts }
     ensures effect { IfOk result (λ effect. effect ≡ effect_of rules.now (seen listing.now place outcomes.now)) }
-    ensures memory { OnlyMemory result }
 {
     for rule in rules {
         if is_for(listing, place, rule) {
@@ -316,10 +310,9 @@ fn outcome_at(
     listing: &Listing,
     outcomes: &[Outcome],
     place: usize,
-) -> Result<Outcome, PathErr>
+) -> Result<Outcome, AllocError>
     requires { place < length listing.now.parts }
     ensures outcome { IfOk result (λ o. o ≡ outcome mode (effect_of rules.now) listing.now place outcomes.now) }
-    ensures memory { OnlyMemory result }
 {
     let part = part_at(listing, place);
     if skips(mode) && has_bad(outcomes, part.deps.as_slice()) {
@@ -338,9 +331,8 @@ pub fn clean(
     mode: Mode,
     rules: &[Rule],
     listing: &Listing,
-) -> Result<Vec<Outcome>, PathErr>
+) -> Result<Vec<Outcome>, AllocError>
     ensures outcomes { IfOk result (λ all. all.items ≡ clean mode (effect_of rules.now) listing.now) }
-    ensures memory { OnlyMemory result }
 {
     let mut all = Vec::new(alloc);
     for place in 0..listing.parts.as_slice().len() {

@@ -1,6 +1,7 @@
 -- A plan, task by task, and when it is valid (Turborepo docs, "Running tasks": the tasks of a run in topological order,
 -- `--force`, `--output-logs`; "Configuring tasks": `cache`, `outputLogs`).
 use Rattle.std.specs.Prelude.{◌≡◌, ℕ, ◌<◌, ◌≤◌, ◌^◌, Bool, true, not, ◌||◌, List, [], length, slice_get, slice_index_or, Option, Some, None, unwrap_or}
+use Rattle.rel_path.specs.Limits.{width_limit}
 use Rattle.turbo_config.specs.declared.task_id.TaskId.{TaskId}
 use Rattle.turbo_config.specs.declared.entry.TaskDef.{TaskDef}
 use Rattle.turbo_config.specs.declared.entry.LogMode.{LogMode}
@@ -53,4 +54,4 @@ pub record IsValidPlan (plan : Plan) : Type 0 where
   pub apart : AreApart plan.listing
   pub few : length plan.listing.parts < 2 ^ 32
   pub wide : 0 < plan.width
-  pub narrow : plan.width ≤ 1024
+  pub narrow : plan.width ≤ width_limit

@@ -5,7 +5,6 @@ ghost use Rattle.run_plan.specs.declared.error.PlanErr.TheVariants.{OutOfMemory}
 use globs::ListGlobErr;
 use listing::ListErr;
 use page::PageErr;
-use rel_path::PathErr;
 use run_core::CoreErr;
 use std::alloc::{AllocError, AllocFailed};
 use thiserror::Error;
@@ -29,15 +28,6 @@ impl<T: Drop> From<AllocFailed<T>> for PlanErr {
     ghost from_gives = { λ _ e. e ≡ OutOfMemory };
 
     fn from(_error: AllocFailed<T>) -> PlanErr {
-        PlanErr::OutOfMemory
-    }
-}
-
-// The calls of these crates that are made here fail for want of memory alone.
-impl From<PathErr> for PlanErr {
-    ghost from_gives = { λ _ e. e ≡ OutOfMemory };
-
-    fn from(_error: PathErr) -> PlanErr {
         PlanErr::OutOfMemory
     }
 }

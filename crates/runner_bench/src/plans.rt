@@ -6,6 +6,7 @@ ghost use Rattle.runner_bench.specs.Tasks.{part_of, AreDeps, AreParts, AreIds, A
 use anyhow::{Result, bail};
 use globs::{GlobList, GlobLists, OutSet};
 use listing::{Listing, Part, Parts};
+use rel_path::limits::MAX_WIDTH;
 use rel_path::{Files, Pairs, Paths, Places, RelPath, Text, Texts};
 use run_core::Mode;
 use run_plan::{PairLists, Plan, TaskDefs};
@@ -183,7 +184,7 @@ pub fn plan_of(alloc: Global, shape: Shape, names: &[Text], width: u32) -> Resul
     ensures files { IfOk result (λ plan. plan.listing.files ≡ []) }
 {
     let count = names.len();
-    if count > 1_000_000 || width == 0 || width > 1024 || !all_differ(names) {
+    if count > 1_000_000 || width == 0 || width > MAX_WIDTH || !all_differ(names) {
         bail!("no plan");
     }
     let listing = Listing {

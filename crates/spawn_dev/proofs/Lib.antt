@@ -2,3 +2,4 @@ pub mod RunningLists
 pub mod Alone
 pub mod Ends
 pub mod Lines
+pub mod Waits

@@ -10,3 +10,4 @@ pub mod Progress
 pub mod ShellText
 pub mod World
 pub mod WorldLaws
+pub mod MemWorld

@@ -1,5 +1,5 @@
 -- What runs in a world in memory, and the steps so far.
-use Rattle.std.specs.Prelude.{ℕ, Bool, List, [], ◌∷◌, Option}
+use Rattle.std.specs.Prelude.{ℕ, Bool, List, [], ◌∷◌, map, Option}
 use Rattle.std.specs.List.{list_all}
 use Rattle.rel_path.specs.Paths.{Path}
 use Rattle.globs.specs.OwnedFiles.{owns_all}
@@ -13,6 +13,10 @@ use Rattle.spawn_dev.specs.Running.{known_at, command_at, held_by, own_once}
 
 abbrev pub command_of : Running → Command
 command_of run = run.command
+
+-- the places of those that run, in order of start
+abbrev pub places_in : List Running → List ℕ
+places_in running = map (λ run. run.command.place) running
 
 -- the command that runs at each place
 abbrev pub runs_at : List Running → ℕ → Option Command

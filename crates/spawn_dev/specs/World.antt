@@ -1,5 +1,5 @@
--- What runs in a world in memory.
-use Rattle.std.specs.Prelude.{ℕ, List, length}
+-- What runs in a world in memory, and which command ends.
+use Rattle.std.specs.Prelude.{ℕ, ◌%◌, List, length, get_or}
 use Rattle.spawn_dev.specs.Progress.{runs_at, will_at}
 use Rattle.spawn_dev.specs.Spawn.{Runs}
 use Rattle.spawn_dev.specs.declared.book.Rule.{Rule}
@@ -16,3 +16,7 @@ runs_in book running steps faults = record {
   count = length running;
   faults = faults;
 }
+
+-- Which of so many ends at the wait of this number: the told one, counted around, and past the list's end the first.
+abbrev pub ends_at : List ℕ → ℕ → ℕ → ℕ
+ends_at ends number count = get_or ends number 0 % count

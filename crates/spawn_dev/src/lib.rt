@@ -14,5 +14,5 @@ pub use book::{Book, Piece, Pieces, Rule, Writes};
 pub use command::{Command, Ended, Step};
 pub use effect::Effect;
 pub use shell::shell_text;
-pub use spawner::{LOG_LIMIT, Spawner};
+pub use spawner::Spawner;
 pub use world::MemWorld;

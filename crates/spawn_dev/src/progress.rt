@@ -1,11 +1,12 @@
 // What runs in a world in memory, and the steps so far.
-ghost use Rattle.std.specs.Prelude.{◌≡◌, ◌∷◌, ◌++◌, ◌+◌, ◌<◌, ℕ, [], true, false, OnOk, OnErr, Some, None, is_some, length, slice_index_or, IsTrue};
+ghost use Rattle.std.specs.Prelude.{◌≡◌, ◌∷◌, ◌++◌, ◌+◌, ◌<◌, ℕ, [], true, false, IfOk, OnOk, OnErr, Some, None, is_some, length, slice_index_or, IsTrue};
+ghost use Rattle.std.specs.List.{remove};
 ghost use Rattle.rel_path.specs.Paths.{Path};
 ghost use Rattle.globs.specs.Outputs.{takes};
 ghost use Rattle.globs.specs.OwnedFiles.{owns_all};
 ghost use Rattle.tree_dev.specs.Cause.{OnlyMemory};
 ghost use Rattle.spawn_dev.specs.Effects.{no_effect};
-ghost use Rattle.spawn_dev.specs.Progress.{command_of, runs_at, will_at, held_at, owned_once, own_files, starts_in};
+ghost use Rattle.spawn_dev.specs.Progress.{command_of, runs_at, will_at, held_at, owned_once, own_files, places_in, starts_in};
 ghost use Rattle.spawn_dev.specs.Running.{are_distinct};
 ghost use Rattle.spawn_dev.specs.Spawn.{put_at};
 
@@ -30,6 +31,18 @@ pub struct Progress {
     ghost started: { starts ≡ starts_in steps.items },
 }
 
+// The command as a step has it, its place behind those of the earlier starts.
+fn recorded(starts: &mut Places, command: &Command) -> Result<Command, DevErr>
+    ensures value { IfOk result (λ started. started ≡ command.now) }
+    ensures pushed { OnOk result (starts.new ≡ starts.old ++ command.now.place ∷ []) }
+    ensures kept { OnErr result (starts.new ≡ starts.old) }
+    ensures memory { OnlyMemory result }
+{
+    let started = command.copy()?;
+    starts.push(command.place)?;
+    Ok(started)
+}
+
 impl Progress {
     pub fn new(alloc: Global) -> Progress
         ensures running { result.running.items ≡ [] }
@@ -51,14 +64,14 @@ impl Progress {
         ensures will { OnOk result (will_at self.new.running.items ≡ put_at (will_at self.old.running.items) command.place effect) }
         ensures held { (path : Path) → held_at self.new.running.items path ≡ true → takes command.outs path ≡ false → held_at self.old.running.items path ≡ true }
         ensures count { OnOk result (length self.new.running.items ≡ length self.old.running.items + 1) }
+        ensures order { OnOk result (places_in self.new.running.items ≡ places_in self.old.running.items ++ command.place ∷ []) }
         ensures steps { OnOk result (self.new.steps.items ≡ self.old.steps.items ++ Step.Start command ∷ []) }
         ensures kept { OnErr result ((self.new.running.items ≡ self.old.running.items) × (self.new.steps.items ≡ self.old.steps.items)) }
         ensures memory { OnlyMemory result }
     {
         self.running.reserve(1)?;
         self.steps.reserve(1)?;
-        let started = command.copy()?;
-        self.starts.push(command.place)?;
+        let started = recorded(&mut self.starts, &command)?;
         self.steps.push(Step::Start(started)).unwrap();
         self.running.push(Running { command, effect }).unwrap();
         Ok(())
@@ -76,6 +89,7 @@ impl Progress {
         ensures held { (path : Path) → held_at self.new.running.items path ≡ true → held_at self.old.running.items path ≡ true }
         ensures freed { (path : Path) → held_at self.new.running.items path ≡ true → takes result.command.outs path ≡ false }
         ensures count { length self.old.running.items ≡ length self.new.running.items + 1 }
+        ensures left { self.new.running.items ≡ remove self.old.running.items index }
         ensures steps { self.new.steps.items ≡ self.old.steps.items }
     {
         self.running.remove(index)

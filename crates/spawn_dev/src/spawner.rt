@@ -1,5 +1,6 @@
 // A tree in which commands run.
 ghost use Rattle.std.specs.Prelude.{◌≡◌, ◌+◌, ◌≤◌, ◌<◌, ℕ, Bool, true, false, length, IfOk, OnOk, OnErr};
+ghost use Rattle.rel_path.specs.Limits.{log_limit};
 ghost use Rattle.rel_path.specs.Paths.{Path};
 ghost use Rattle.tree_dev.specs.Cause.{HasCause};
 ghost use Rattle.spawn_dev.specs.Effects.{Seen, IsWellBehaved};
@@ -9,9 +10,6 @@ ghost use Rattle.spawn_dev.specs.declared.effect.Effect.{Effect};
 use crate::{Command, Ended};
 use std::alloc::Global;
 use tree_dev::{DevErr, Tree};
-
-/// The most bytes of a log.
-pub const LOG_LIMIT: usize = 67_108_864;
 
 /// A tree in which commands run. What runs is its `runs`: the book, by which a command's effect follows from
 /// what the command sees; the command that runs at each place, which holds told or not; the effect that each of
@@ -50,7 +48,7 @@ pub trait Spawner: Tree {
         ensures book { (runs self.new).book ≡ (runs self.old).book }
         ensures over { IfOk result (λ ended. IsOver ended.place (runs self.old) (runs self.new) (Self.state self.old).files (Self.state self.new).files) }
         ensures ends { Self.tells → IfOk result (λ ended. EndsAs ended (runs self.old) (runs self.new) (Self.state self.old).files (Self.state self.new).files) }
-        ensures short { IfOk result (λ ended. length ended.log ≤ LOG_LIMIT) }
+        ensures short { IfOk result (λ ended. length ended.log ≤ log_limit) }
         ensures failed { OnErr result ((place : ℕ) × IsOver place (runs self.old) (runs self.new) (Self.state self.old).files (Self.state self.new).files) }
         ensures unsaid { OnErr result ((runs self.new).steps ≡ (runs self.old).steps) }
         ensures others { KeepsWill (runs self.old) (runs self.new) }

@@ -61,3 +61,12 @@ pub record LeavesOnly {D X : Type 0} (moment : D → ℕ) (since : D → ℕ →
   pub each : (c : X) → since new (moment old) c → P c
   -- for what began earlier
   pub before : (m : ℕ) (c : X) → m ≤ moment old → since new m c → since old m c ⊎ P c
+
+-- The same over any clock: a crash at any moment from start to end leaves what has P, where `past` says what it might
+-- have left up to start since each moment, and `since` what it might have left up to end.
+pub record LeavesBetween {T X : Type 0} (no_later : T → T → Type 0) (start end : T)
+    (past since : T → X → Type 0) (P : X → Type 0) : Type 0 where
+  pub later : no_later start end
+  pub each : (c : X) → since start c → P c
+  -- for what began earlier
+  pub before : (m : T) (c : X) → no_later m start → since m c → past m c ⊎ P c

@@ -2,7 +2,7 @@
 ghost use Rattle.std.specs.Prelude.{◌≡◌};
 ghost use Rattle.task_graph.specs.declared.error.GraphErr.TheVariants.{OutOfMemory};
 
-use rel_path::{PathErr, Text};
+use rel_path::Text;
 use std::alloc::{AllocError, AllocFailed};
 use thiserror::Error;
 use turbo_config::{ConfigErr, TaskId, TaskIds};
@@ -35,15 +35,6 @@ impl<T: Drop> From<AllocFailed<T>> for GraphErr {
     ghost from_gives = { λ _ e. e ≡ OutOfMemory };
 
     fn from(_error: AllocFailed<T>) -> GraphErr {
-        GraphErr::OutOfMemory
-    }
-}
-
-// For calls whose only error is want of memory.
-impl From<PathErr> for GraphErr {
-    ghost from_gives = { λ _ e. e ≡ OutOfMemory };
-
-    fn from(_error: PathErr) -> GraphErr {
         GraphErr::OutOfMemory
     }
 }

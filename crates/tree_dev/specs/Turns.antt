@@ -1,6 +1,8 @@
 -- Which calls of a device in memory fail.
-use Rattle.std.specs.Prelude.{◌+◌, ◌-◌, ◌^◌, min}
+use Rattle.std.specs.Prelude.{◌≡◌, ◌↔◌, ◌+◌, ◌-◌, ◌^◌, min, Result, IsErrOf}
 use Rattle.std.specs.List.{Contains}
+use Rattle.tree_dev.specs.declared.error.DevErr.{DevErr}
+use Rattle.tree_dev.specs.declared.error.DevErr.TheVariants.{Failed}
 use Rattle.tree_dev.specs.declared.turns.Turns.{Turns}
 use Rattle.tree_dev.specs.declared.memory.MemTree.{MemTree}
 use Rattle.tree_dev.specs.declared.sink.MemSink.{MemSink}
@@ -20,3 +22,8 @@ tree_turns tree = tree.turns
 -- the calls of a sink in memory
 abbrev pub sink_turns : MemSink → Turns
 sink_turns sink = sink.turns
+
+-- the call fails exactly where its number is one of those that fail, and it is counted
+pub record FailsAsTold {T : Type 0} (old new : Turns) (result : Result T DevErr) : Type 0 where
+  pub fails : IsErrOf result Failed ↔ FailsNext old
+  pub counted : new ≡ after old

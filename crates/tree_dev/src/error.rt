@@ -2,7 +2,6 @@
 ghost use Rattle.std.specs.Prelude.{◌≡◌};
 ghost use Rattle.tree_dev.specs.declared.error.DevErr.TheVariants.{OutOfMemory};
 
-use rel_path::PathErr;
 use std::alloc::{AllocError, AllocFailed};
 use thiserror::Error;
 
@@ -28,15 +27,6 @@ impl<T: Drop> From<AllocFailed<T>> for DevErr {
     ghost from_gives = { λ _ e. e ≡ OutOfMemory };
 
     fn from(_error: AllocFailed<T>) -> DevErr {
-        DevErr::OutOfMemory
-    }
-}
-
-/// For calls of `rel_path` that take memory alone.
-impl From<PathErr> for DevErr {
-    ghost from_gives = { λ _ e. e ≡ OutOfMemory };
-
-    fn from(_error: PathErr) -> DevErr {
         DevErr::OutOfMemory
     }
 }

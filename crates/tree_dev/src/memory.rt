@@ -1,13 +1,15 @@
 // A tree in memory, which fails at the calls that it is told to.
-ghost use Rattle.std.specs.Prelude.{◌≡◌, ◌↔◌, false, Some, OnOk, OnErr, IfOk, IsTrue};
-ghost use Rattle.std.specs.List.{position};
+ghost use Rattle.std.specs.Prelude.{◌≡◌, ◌≤◌, ◌↔◌, false, Some, None, OnOk, OnErr, IfOk, IsTrue};
+ghost use Rattle.std.specs.List.{All, position};
+ghost use Rattle.std.specs.List.Sorted.{IsStrictlySortedBy};
 ghost use Rattle.std.specs.Option.{option_map};
 ghost use Rattle.rel_path.specs.Files.{file_at, over, SameBut};
-ghost use Rattle.tree_dev.specs.Cause.{OnlyMemory};
+ghost use Rattle.tree_dev.specs.Cause.{HasCause, OnlyMemory};
 ghost use Rattle.tree_dev.specs.Listing.{deepest};
-ghost use Rattle.tree_dev.specs.Memory.{is_at, is_elsewhere, without};
-ghost use Rattle.tree_dev.specs.Tree.{within};
-ghost use Rattle.tree_dev.specs.Turns.{FailsNext, after, tree_turns};
+ghost use Rattle.tree_dev.specs.Memory.{is_at, is_elsewhere, without, state_of};
+ghost use Rattle.tree_dev.specs.Names.{NamesIn, IsProper, entry_cmp};
+ghost use Rattle.tree_dev.specs.Tree.{Keeps, Looks, within};
+ghost use Rattle.tree_dev.specs.Turns.{FailsAsTold, FailsNext, after, tree_turns};
 
 use crate::listing::sorted_names;
 use crate::turns::count_fault;
@@ -152,9 +154,16 @@ impl Tree for MemTree {
 
     ghost Rest = { Unit {0} };
 
-    ghost state = { λ t. record { files = file_at t.files; held = λ _. false; rest = tt; reach = deepest t.files; faults = t.faults } };
+    ghost state = { state_of };
 
-    fn list(&mut self, alloc: Global, folder: &RelPath) -> Result<Entries, DevErr> {
+    fn list(&mut self, alloc: Global, folder: &RelPath) -> Result<Entries, DevErr>
+        ensures looks { Looks (state_of self.old) (state_of self.new) }
+        ensures ascend { IfOk result (λ names. IsStrictlySortedBy entry_cmp names) }
+        ensures proper { IfOk result (λ names. All (IsProper (state_of self.old).reach folder.now) names) }
+        ensures names { IfOk result (λ names. NamesIn (state_of self.old).files (state_of self.old).held folder.now names) }
+        ensures cause { HasCause (state_of self.old).faults (state_of self.new).faults result }
+        ensures told { FailsAsTold (tree_turns self.old) (tree_turns self.new) result }
+    {
         if self.turns.fails_now() {
             count_fault(&mut self.faults);
             return Err(DevErr::Failed);
@@ -163,7 +172,12 @@ impl Tree for MemTree {
         Ok(Entries::from_vec(names))
     }
 
-    fn read(&mut self, alloc: Global, path: &RelPath, limit: u64) -> Result<Found, DevErr> {
+    fn read(&mut self, alloc: Global, path: &RelPath, limit: u64) -> Result<Found, DevErr>
+        ensures looks { Looks (state_of self.old) (state_of self.new) }
+        ensures found { IfOk result (λ found. found ≡ within limit ((state_of self.old).files path.now)) }
+        ensures cause { HasCause (state_of self.old).faults (state_of self.new).faults result }
+        ensures told { FailsAsTold (tree_turns self.old) (tree_turns self.new) result }
+    {
         if self.turns.fails_now() {
             count_fault(&mut self.faults);
             return Err(DevErr::Failed);
@@ -171,7 +185,14 @@ impl Tree for MemTree {
         read_at(alloc, self.files.as_slice(), path, limit)
     }
 
-    fn write(&mut self, alloc: Global, path: &RelPath, bytes: &[u8]) -> Result<(), DevErr> {
+    fn write(&mut self, alloc: Global, path: &RelPath, bytes: &[u8]) -> Result<(), DevErr>
+        ensures keeps { Keeps (state_of self.old) (state_of self.new) }
+        ensures others { SameBut path.now (state_of self.old).files (state_of self.new).files }
+        ensures written { OnOk result ((state_of self.new).files path.now ≡ Some bytes.now) }
+        ensures cause { HasCause (state_of self.old).faults (state_of self.new).faults result }
+        ensures told { FailsAsTold (tree_turns self.old) (tree_turns self.new) result }
+        ensures kept { OnErr result ((state_of self.new).files ≡ (state_of self.old).files) }
+    {
         if self.turns.fails_now() {
             count_fault(&mut self.faults);
             return Err(DevErr::Failed);
@@ -184,7 +205,15 @@ impl Tree for MemTree {
         written
     }
 
-    fn remove(&mut self, _alloc: Global, path: &RelPath) -> Result<(), DevErr> {
+    fn remove(&mut self, _alloc: Global, path: &RelPath) -> Result<(), DevErr>
+        ensures keeps { Keeps (state_of self.old) (state_of self.new) }
+        ensures reach { (state_of self.new).reach ≤ (state_of self.old).reach }
+        ensures others { SameBut path.now (state_of self.old).files (state_of self.new).files }
+        ensures removed { OnOk result ((state_of self.new).files path.now ≡ None) }
+        ensures cause { HasCause (state_of self.old).faults (state_of self.new).faults result }
+        ensures told { FailsAsTold (tree_turns self.old) (tree_turns self.new) result }
+        ensures kept { OnErr result ((state_of self.new).files ≡ (state_of self.old).files) }
+    {
         if self.turns.fails_now() {
             count_fault(&mut self.faults);
             return Err(DevErr::Failed);

@@ -1,8 +1,8 @@
 // A sink for bytes, by what it means, and one in memory.
-ghost use Rattle.std.specs.Prelude.{◌≡◌, ℕ, List, []};
+ghost use Rattle.std.specs.Prelude.{◌≡◌, ℕ, List, [], OnErr};
 ghost use Rattle.tree_dev.specs.Cause.{HasCause};
 ghost use Rattle.tree_dev.specs.Sink.{Appends};
-ghost use Rattle.tree_dev.specs.Turns.{sink_turns};
+ghost use Rattle.tree_dev.specs.Turns.{FailsAsTold, sink_turns};
 
 use crate::turns::count_fault;
 use crate::{DevErr, Turns};
@@ -59,7 +59,12 @@ impl Sink for MemSink {
 
     ghost faults = { λ s. s.faults };
 
-    fn put(&mut self, _alloc: Global, bytes: &[u8]) -> Result<(), DevErr> {
+    fn put(&mut self, _alloc: Global, bytes: &[u8]) -> Result<(), DevErr>
+        ensures appends { Appends bytes.now self.old.written.items self.new.written.items result }
+        ensures cause { HasCause self.old.faults self.new.faults result }
+        ensures told { FailsAsTold (sink_turns self.old) (sink_turns self.new) result }
+        ensures kept { OnErr result (self.new.written.items ≡ self.old.written.items) }
+    {
         if self.turns.fails_now() {
             count_fault(&mut self.faults);
             return Err(DevErr::Failed);

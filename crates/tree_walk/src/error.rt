@@ -2,7 +2,8 @@
 ghost use Rattle.std.specs.Prelude.{◌≡◌};
 ghost use Rattle.tree_walk.specs.declared.error.WalkErr.TheVariants.{OutOfMemory, Failed};
 
-use rel_path::{PathErr, RelPath};
+use rel_path::RelPath;
+use std::alloc::AllocError;
 use thiserror::Error;
 use tree_dev::DevErr;
 
@@ -22,11 +23,10 @@ pub enum WalkErr {
     OutOfMemory,
 }
 
-// For calls whose only error is want of memory.
-impl From<PathErr> for WalkErr {
+impl From<AllocError> for WalkErr {
     ghost from_gives = { λ _ e. e ≡ OutOfMemory };
 
-    fn from(_error: PathErr) -> WalkErr {
+    fn from(_error: AllocError) -> WalkErr {
         WalkErr::OutOfMemory
     }
 }

@@ -7,4 +7,4 @@ mod walk_root;
 
 pub use error::WalkErr;
 pub use traversal::{Bounds, Choose, gather};
-pub use walk_root::{DEEPEST, MOST_FILES, is_skipped, walk};
+pub use walk_root::{is_skipped, walk};

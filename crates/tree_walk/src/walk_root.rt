@@ -7,15 +7,10 @@ ghost use Rattle.tree_walk.specs.Cause.{HasCause};
 
 use crate::WalkErr;
 use crate::traversal::{Bounds, Choose, gather};
+use rel_path::limits::{MAX_COMPONENTS, MAX_FILES};
 use rel_path::{Paths, RelPath, Text};
 use std::alloc::Global;
 use tree_dev::Tree;
-
-/// The most components of a walked path.
-pub const DEEPEST: usize = 64;
-
-/// The most walked files.
-pub const MOST_FILES: usize = 200_000;
 
 /// Whether a folder of this name is never entered: `node_modules`, `.git` and `.turbo`.
 pub fn is_skipped(name: &Text) -> bool
@@ -52,8 +47,8 @@ pub fn walk<T: Tree>(alloc: Global, tree: &mut T) -> Result<Paths, WalkErr>
     ensures cause { HasCause (T.state tree.old).faults (T.state tree.new).faults result }
 {
     let bounds = Bounds {
-        depth: DEEPEST,
-        most: MOST_FILES,
+        depth: MAX_COMPONENTS,
+        most: MAX_FILES,
     };
     let root = RelPath::root(alloc);
     let mut found = Paths::new(alloc);

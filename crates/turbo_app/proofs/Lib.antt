@@ -1,3 +1,4 @@
 mod Causes
 mod Printed
 mod Only
+mod NotBuilt

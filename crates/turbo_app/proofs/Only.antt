@@ -6,16 +6,15 @@ use Rattle.rel_path.specs.Files.{FileMap}
 use Rattle.cache_api.specs.Pairs.{Pair}
 use Rattle.record_log.specs.Frames.{Fault, reading}
 use Rattle.artifact_store.specs.Pairs.{stands_for, pairs_in}
-use Rattle.cli_words.specs.declared.order.Order.TheVariants.{Run}
 use Rattle.cli_words.specs.declared.order.RunOrder.{RunOrder}
-use Rattle.page.specs.declared.refusal.Refusal.{Refusal}
+use Rattle.refusals.specs.declared.refusal.Refusal.{Refusal}
 use Rattle.run_laws.specs.Effects.{Book}
 use Rattle.run_plan.specs.declared.plan.Plan.{Plan}
 use Rattle.plan_laws.specs.Laws.{AsksFor, OrderLaw}
 use Rattle.turbo_app.specs.declared.answer.Answer.{Answer}
 use Rattle.turbo_app.specs.declared.answer.Answer.TheVariants.{Done, Refused, TreeFault, StoreFault, StartFault, SinkFault, OutOfMemory}
 use Rattle.turbo_app.specs.Answers.{IfDone, IfRefused, IsNothingBut}
-use Rattle.turbo_app.specs.Asking.{IsRefusedOrder, store_refusal}
+use Rattle.turbo_app.specs.Asking.{IsRefusedRun, store_refusal}
 use Rattle.turbo_app.specs.Outcomes.{Moment, RanAs, RanOrder}
 
 -- the pairs of the store that a run, dry or not, began with
@@ -38,11 +37,11 @@ module _ (law : OrderLaw) (order : RunOrder) (env : List (List ℕ × List ℕ))
   not_both : (plan : Plan) (reason : Refusal) → AsksFor order env files (Ok plan) → AsksFor order env files (Err reason) → ⊥
   not_both plan reason planned refused = IfOk-at_ok (λ _. ⊥) {r = Err reason} {x = plan} (law order env files (Err reason) (Ok plan) refused planned) tt
 
-  not_planned : (stored : List ℕ) (reason : Refusal) (plan : Plan) (pairs : List Pair) → AsksFor order env files (Ok plan) → stands_for stored ≡ Some pairs → IsRefusedOrder (Ok (Run order)) env files stored reason → ⊥
+  not_planned : (stored : List ℕ) (reason : Refusal) (plan : Plan) (pairs : List Pair) → AsksFor order env files (Ok plan) → stands_for stored ≡ Some pairs → IsRefusedRun order env files stored reason → ⊥
   not_planned stored reason plan pairs planned good (inl refused) = not_both plan reason planned refused
   not_planned stored reason plan pairs planned good (inr bad) = stands_not stored bad.fault pairs bad.reads good
 
-  one_reason : (stored : List ℕ) (reason other : Refusal) → IsRefusedOrder (Ok (Run order)) env files stored reason → IsRefusedOrder (Ok (Run order)) env files stored other → other ≡ reason
+  one_reason : (stored : List ℕ) (reason other : Refusal) → IsRefusedRun order env files stored reason → IsRefusedRun order env files stored other → other ≡ reason
   one_reason stored reason other (inl a) (inl b) = IfErr-at_err (λ y. other ≡ y) {r = Err other} {y = reason} (law order env files (Err other) (Err reason) b a) refl
   one_reason stored reason other (inl a) (inr b) = absurd (not_both b.plan reason b.asks a)
   one_reason stored reason other (inr a) (inl b) = absurd (not_both a.plan other a.asks b)
@@ -51,8 +50,8 @@ module _ (law : OrderLaw) (order : RunOrder) (env : List (List ℕ × List ℕ))
       b.is ∙ ap store_refusal same ∙ sym a.is
 
   -- what is answered to an order that a reason refuses
-  pub only_refused : (book : Book) (Heard : Type 0) (old new : Moment) (answer : Answer) → old.files ≡ files → IfDone answer (RanOrder book order env Heard old new) → IfRefused answer (IsRefusedOrder (Ok (Run order)) env files old.stored)
-      → (reason : Refusal) → IsRefusedOrder (Ok (Run order)) env files old.stored reason → IsNothingBut reason answer
+  pub only_refused : (book : Book) (Heard : Type 0) (old new : Moment) (answer : Answer) → old.files ≡ files → IfDone answer (RanOrder book order env Heard old new) → IfRefused answer (IsRefusedRun order env files old.stored)
+      → (reason : Refusal) → IsRefusedRun order env files old.stored reason → IsNothingBut reason answer
   only_refused book Heard old new (Done status) same ran refused reason is =
       let opened = opened_of order.dry book ran.plan Heard old new status ran.ran in
       (absurd (not_planned old.stored reason ran.plan opened.0 (subst (λ fs. AsksFor order env fs (Ok ran.plan)) same ran.asks) opened.1 is), tt)

@@ -4,7 +4,7 @@ use Rattle.std.specs.Prelude.{Result}
 use Rattle.std.proofs.Math.Seq.{take-length}
 use Rattle.page.specs.declared.error.PageErr.{PageErr}
 use Rattle.page.specs.declared.error.PageErr.TheVariants as page
-use Rattle.page.specs.declared.refusal.Refusal.{Refusal}
+use Rattle.refusals.specs.declared.refusal.Refusal.{Refusal}
 use Rattle.page.specs.Answers.{Emits}
 use Rattle.turbo_app.specs.declared.answer.Answer.{Answer}
 use Rattle.turbo_app.specs.declared.answer.Answer.TheVariants.{Done, Refused, TreeFault, StoreFault, StartFault, SinkFault, OutOfMemory}

@@ -1,7 +1,7 @@
 -- What the program's answers say of its devices.
 use Rattle.std.specs.Prelude.{◌≡◌, ℕ, ◌≤◌, ◌<◌, ◌-◌, ◌^◌, ⊤}
 use Rattle.rel_path.specs.Causes.{Rose}
-use Rattle.page.specs.declared.refusal.Refusal.{Refusal}
+use Rattle.refusals.specs.declared.refusal.Refusal.{Refusal}
 use Rattle.turbo_app.specs.declared.answer.Answer.{Answer}
 use Rattle.turbo_app.specs.declared.answer.Answer.TheVariants.{Done, Refused, TreeFault, StoreFault, StartFault, SinkFault, OutOfMemory}
 

@@ -6,7 +6,7 @@ use Rattle.cache_api.specs.Pairs.{Pair}
 use Rattle.artifact_store.specs.Pairs.{stands_for}
 use Rattle.spawn_dev.specs.declared.command.Step.{Step}
 use Rattle.cli_words.specs.declared.order.Order.{Order}
-use Rattle.cli_words.specs.declared.order.Order.TheVariants.{Run, Prune, Help}
+use Rattle.cli_words.specs.declared.order.Order.TheVariants.{Run, Prune, Sample, Compact, Help}
 use Rattle.cli_words.specs.declared.order.RunOrder.{RunOrder}
 use Rattle.cli_words.specs.declared.error.WordsErr.{WordsErr}
 use Rattle.cli_words.specs.Orders.{order_of}
@@ -74,7 +74,9 @@ pub record Helped (Heard : Type 0) (old new : Moment) (status : ℕ) : Type 0 wh
 abbrev pub DidOrder : Result Order WordsErr → Book → List (List ℕ × List ℕ) → Type 0 → Moment → Moment → ℕ → Type 0
 DidOrder (Err fault) book env Heard old new status = ⊥
 DidOrder (Ok Help) book env Heard old new status = Helped Heard old new status
-DidOrder (Ok (Prune targets)) book env Heard old new status = ⊥
+DidOrder (Ok (Prune targets docker)) book env Heard old new status = ⊥
+DidOrder (Ok (Sample size)) book env Heard old new status = ⊥
+DidOrder (Ok (Compact keep)) book env Heard old new status = ⊥
 DidOrder (Ok (Run order)) book env Heard old new status = RanOrder book order env Heard old new status
 
 -- what the words ask for was done
@@ -92,7 +94,9 @@ pub record ChangesOwn (order : RunOrder) (env : List (List ℕ × List ℕ)) (ol
 abbrev pub MayChangeBy : Result Order WordsErr → List (List ℕ × List ℕ) → FileMap → FileMap → Type 0
 MayChangeBy (Err fault) env old new = new ≡ old
 MayChangeBy (Ok Help) env old new = new ≡ old
-MayChangeBy (Ok (Prune targets)) env old new = new ≡ old
+MayChangeBy (Ok (Prune targets docker)) env old new = new ≡ old
+MayChangeBy (Ok (Sample size)) env old new = new ≡ old
+MayChangeBy (Ok (Compact keep)) env old new = new ≡ old
 MayChangeBy (Ok (Run order)) env old new = (new ≡ old) ⊎ ChangesOwn order env old new
 
 -- what a call may leave of the files, whatever it answers

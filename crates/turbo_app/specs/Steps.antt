@@ -8,8 +8,8 @@ use Rattle.turbo_app.specs.declared.asking.NoPlan.TheVariants.{Refused, Failed, 
 use Rattle.cli_words.specs.declared.order.RunOrder.{RunOrder}
 use Rattle.cli_words.specs.declared.error.WordsErr.{WordsErr}
 use Rattle.cli_words.specs.declared.error.WordsErr.TheVariants as words
-use Rattle.page.specs.declared.refusal.Refusal.{Refusal}
-use Rattle.page.specs.declared.refusal.Refusal.TheVariants as refusal
+use Rattle.refusals.specs.declared.refusal.Refusal.{Refusal}
+use Rattle.refusals.specs.declared.refusal.Refusal.TheVariants as refusal
 use Rattle.record_log.specs.Frames.{Fault, reading}
 use Rattle.artifact_store.specs.declared.error.OpenErr.{OpenErr}
 use Rattle.artifact_store.specs.declared.error.OpenErr.TheVariants as opening

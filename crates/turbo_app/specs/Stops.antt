@@ -4,13 +4,13 @@ use Rattle.listing.specs.KeyText.{Fits}
 use Rattle.cache_api.specs.Pairs.{Pair}
 use Rattle.artifact_store.specs.Pairs.{stands_for}
 use Rattle.cli_words.specs.declared.order.Order.{Order}
-use Rattle.cli_words.specs.declared.order.Order.TheVariants.{Run, Prune, Help}
+use Rattle.cli_words.specs.declared.order.Order.TheVariants.{Run, Prune, Sample, Compact, Help}
 use Rattle.cli_words.specs.declared.order.RunOrder.{RunOrder}
 use Rattle.cli_words.specs.declared.error.WordsErr.{WordsErr}
 use Rattle.cli_words.specs.Orders.{order_of}
-use Rattle.page.specs.declared.refusal.Refusal.{Refusal}
-use Rattle.page.specs.declared.refusal.DeviceFault.TheVariants as device
-use Rattle.page.specs.Refusals.{line_of, refusal_text, device_fault_line}
+use Rattle.refusals.specs.declared.refusal.Refusal.{Refusal}
+use Rattle.refusals.specs.declared.refusal.DeviceFault.TheVariants as device
+use Rattle.refusals.specs.Refusals.{line_of, refusal_text, device_fault_line}
 use Rattle.run_laws.specs.Effects.{Book}
 use Rattle.run_laws.specs.Keys.{IsStorable}
 use Rattle.run_laws.specs.Pairs.{IsGood}
@@ -66,13 +66,23 @@ pub record StopsOrder (book : Book) (order : RunOrder) (env : List (List ℕ × 
   pub opened : stands_for old.stored ≡ Some pairs
   pub stops : StopsRun order.dry book plan pairs old after output_failed line
 
+-- what was printed where a run that has these reasons to be refused was stopped by a fault of a device
+abbrev pub StoppedRun : (Refusal → Type 0) → RunOrder → Book → List (List ℕ × List ℕ) → Moment → List ℕ → Bool → List ℕ → Type 0
+StoppedRun Reason order book env old after output_failed line =
+    StopsEarly Reason old.printed after output_failed line ⊎ StopsOrder book order env old after output_failed line
+
 -- what was printed where the call was stopped by a fault of a device
 abbrev pub StoppedBy : Result Order WordsErr → Book → List (List ℕ × List ℕ) → Moment → List ℕ → Bool → List ℕ → Type 0
 StoppedBy (Err fault) book env old after output_failed line = CutsRefusal (IsRefusedOrder (Err fault) env old.files old.stored) output_failed old.printed after
 StoppedBy (Ok Help) book env old after output_failed line = (output_failed ≡ true) × PrintsSome usage old.printed after
-StoppedBy (Ok (Prune targets)) book env old after output_failed line = CutsRefusal (IsRefusedOrder (Ok (Prune targets)) env old.files old.stored) output_failed old.printed after
+StoppedBy (Ok (Prune targets docker)) book env old after output_failed line =
+    CutsRefusal (IsRefusedOrder (Ok (Prune targets docker)) env old.files old.stored) output_failed old.printed after
+StoppedBy (Ok (Sample size)) book env old after output_failed line =
+    CutsRefusal (IsRefusedOrder (Ok (Sample size)) env old.files old.stored) output_failed old.printed after
+StoppedBy (Ok (Compact keep)) book env old after output_failed line =
+    CutsRefusal (IsRefusedOrder (Ok (Compact keep)) env old.files old.stored) output_failed old.printed after
 StoppedBy (Ok (Run order)) book env old after output_failed line =
-    StopsEarly (IsRefusedOrder (Ok (Run order)) env old.files old.stored) old.printed after output_failed line ⊎ StopsOrder book order env old after output_failed line
+    StoppedRun (IsRefusedOrder (Ok (Run order)) env old.files old.stored) order book env old after output_failed line
 
 abbrev pub Stopped : List (List ℕ) → Book → List (List ℕ × List ℕ) → Moment → List ℕ → Bool → List ℕ → Type 0
 Stopped words book env old after output_failed line = StoppedBy (order_of words) book env old after output_failed line

@@ -2,7 +2,7 @@
 ghost use Rattle.std.specs.Prelude.{◌≡◌};
 ghost use Rattle.turbo_app.specs.Answers.{exit_status};
 
-use page::Refusal;
+use refusals::Refusal;
 
 /// How a call of `turbo` ended.
 #[derive(Debug, Drop)]

@@ -1,5 +1,6 @@
 // The plan that an order to run asks for.
 ghost use Rattle.std.specs.Prelude.{◌≡◌, ◌<◌, ◌≤◌, false, IfOk};
+ghost use Rattle.rel_path.specs.Limits.{width_limit};
 ghost use Rattle.rel_path.specs.Paths.{Path};
 ghost use Rattle.tree_dev.specs.Tree.{Looks};
 ghost use Rattle.run_plan.specs.Openings.{HoldsInputs};
@@ -7,8 +8,8 @@ ghost use Rattle.run_plan.specs.Plans.{IsValidPlan};
 ghost use Rattle.turbo_app.specs.Steps.{AsksAs, HasCause};
 
 use cli_words::RunOrder;
-use page::Refusal;
 use planner::{PlannerErr, plan_run};
+use refusals::Refusal;
 use rel_path::Text;
 use repository::{RepositoryErr, read_repository};
 use run_plan::Plan;
@@ -33,7 +34,7 @@ pub(crate) fn asked<T: Tree>(
 ) -> Result<Plan, NoPlan>
     requires none { (path : Path) → (T.state tree.old).held path ≡ false }
     requires wide { 0 < order.now.width }
-    requires narrow { order.now.width ≤ 1024 }
+    requires narrow { order.now.width ≤ width_limit }
     ensures looks { Looks (T.state tree.old) (T.state tree.new) }
     ensures asks { T.tells → AsksAs order.now env.now (T.state tree.old).files result }
     ensures valid { IfOk result IsValidPlan }

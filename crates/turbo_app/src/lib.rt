@@ -9,7 +9,9 @@ mod asking;
 mod running;
 mod telling;
 mod top;
+mod unbuilt;
 
 pub use answer::Answer;
-pub use page::Refusal;
+pub use refusals::Refusal;
 pub use top::{run_order, turbo};
+pub use unbuilt::{ALWAYS_FORM, CACHE_FORM, COMPACT_FORM, PRUNE_FORM, SAMPLE_FORM, SHARED_FORM};

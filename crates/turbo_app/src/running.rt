@@ -2,7 +2,7 @@
 ghost use Rattle.std.specs.Prelude.{◌≡◌, ◌++◌, ◌≤◌, ◌<◌, ℕ, List, length, Some, IsTrue};
 ghost use Rattle.std.specs.Bool.{OnFalse, OnTrue};
 ghost use Rattle.spawn_dev.specs.Spawn.{IsIdle};
-ghost use Rattle.page.specs.Refusals.{line_of, refusal_text};
+ghost use Rattle.refusals.specs.Refusals.{line_of, refusal_text};
 ghost use Rattle.run_laws.specs.Runs.{IsReady};
 ghost use Rattle.run_plan.specs.Answers.{Ran, IsTornPage, SameElsewhere};
 ghost use Rattle.run_plan.specs.DryPages.{dry_page, IsTornDry};
@@ -23,8 +23,8 @@ use crate::Answer;
 use crate::telling::{refuse, tell};
 use artifact_store::{OpenErr, Store};
 use cache_api::Cache;
-use page::{DeviceFault, Refusal};
 use record_log::Unopened;
+use refusals::{DeviceFault, Refusal};
 use run_plan::Plan;
 use runner::{RunErr, dry, run};
 use spawn_dev::Spawner;

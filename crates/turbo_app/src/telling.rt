@@ -1,12 +1,13 @@
 // What is printed in the place of a run.
 ghost use Rattle.std.specs.Prelude.{◌≡◌, ◌++◌, ◌≤◌, ℕ, true};
-ghost use Rattle.page.specs.Refusals.{line_of, refusal_text, device_fault_line};
+ghost use Rattle.refusals.specs.Refusals.{line_of, refusal_text, device_fault_line};
 ghost use Rattle.turbo_app.specs.Answers.{IfDone, IfRefused, HasCauseIn, counts_of};
 ghost use Rattle.turbo_app.specs.Outcomes.{usage};
 ghost use Rattle.turbo_app.specs.Stops.{IfFault, PrintsSome};
 
 use crate::Answer;
-use page::{DeviceFault, PageErr, Refusal, device_fault_text, emit, fault_text};
+use page::{PageErr, emit};
+use refusals::{DeviceFault, Refusal, device_fault_text, fault_text};
 use std::alloc::Global;
 use tree_dev::Sink;
 

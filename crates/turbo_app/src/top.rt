@@ -1,30 +1,29 @@
 // The top call.
 ghost use Rattle.std.specs.Prelude.{◌≡◌, ◌++◌, ◌<◌, ◌≤◌, ℕ, length, Ok};
+ghost use Rattle.rel_path.specs.Limits.{width_limit};
 ghost use Rattle.spawn_dev.specs.Spawn.{IsIdle};
 ghost use Rattle.cli_words.specs.declared.order.Order.TheVariants.{Run};
-ghost use Rattle.page.specs.Refusals.{line_of, refusal_text};
+ghost use Rattle.refusals.specs.Refusals.{line_of, refusal_text};
 ghost use Rattle.turbo_app.specs.Answers.{IfDone, IfRefused, HasCauseIn, IsNoFault, IsQuiet, counts_of};
-ghost use Rattle.turbo_app.specs.Asking.{IsRefused, IsRefusedOrder, HasNoOther};
+ghost use Rattle.turbo_app.specs.Asking.{IsRefused, IsRefusedOrder, IsRefusedRun, HasNoOther, HasNoOtherBy};
 ghost use Rattle.rel_path.specs.Causes.{Counts};
 ghost use Rattle.turbo_app.specs.Steps.{is_failed, raised, IsWordsRefusal};
 ghost use Rattle.turbo_app.specs.Outcomes.{Did, RanOrder, MayChange, MayChangeBy, moment_of};
-ghost use Rattle.turbo_app.specs.Stops.{IfFault, StopsEarly, CutsRefusal, StoppedBy, Stopped};
+ghost use Rattle.turbo_app.specs.Stops.{IfFault, StopsEarly, CutsRefusal, StoppedBy, StoppedRun, Stopped};
 
 use crate::Answer;
 use crate::asking::{NoPlan, asked};
 use crate::running::run_plan;
 use crate::telling::{help, refuse, tell};
+use crate::unbuilt::{COMPACT_FORM, PRUNE_FORM, SAMPLE_FORM, unbuilt_run};
 use cli_words::{Order, RunOrder, WordsErr, width_law};
-use page::{DeviceFault, Refusal};
 use plan_laws::order_law;
+use refusals::{DeviceFault, Refusal};
 use rel_path::Text;
 use spawn_dev::Spawner;
 use std::alloc::Global;
 use store_dev::StoreDevice;
 use tree_dev::Sink;
-
-/// The number of the form that is not built: orders to prune.
-const PRUNE_FORM: u8 = 11;
 
 /// Answers why there is no plan.
 fn unplanned<K: Sink>(alloc: Global, stop: NoPlan, out: &mut K) -> Answer
@@ -58,8 +57,8 @@ fn refuse_words<K: Sink>(alloc: Global, fault: WordsErr, out: &mut K) -> Answer
     refuse(alloc, Refusal::Words(fault), out)
 }
 
-/// Does what `turbo` does with words that are an order to run.
-pub fn run_order<W: Spawner, S: StoreDevice, K: Sink>(
+/// Does what an order to run asks for that is built.
+fn run_built<W: Spawner, S: StoreDevice, K: Sink>(
     alloc: Global,
     order: &RunOrder,
     env: &[(Text, Text)],
@@ -69,17 +68,17 @@ pub fn run_order<W: Spawner, S: StoreDevice, K: Sink>(
 ) -> (Answer, S)
     requires idle { IsIdle (W.runs world.old) }
     requires wide { 0 < order.now.width }
-    requires narrow { order.now.width ≤ 1024 }
+    requires narrow { order.now.width ≤ width_limit }
     ensures idle { IsIdle (W.runs world.new) }
     ensures ran { W.tells → S.tells → IfDone result.0 (RanOrder (W.effect (W.runs world.old).book) order.now env.now K.tells
         (moment_of (W.state world.old).files (W.runs world.old).steps (S.content store) (K.written out.old))
         (moment_of (W.state world.new).files (W.runs world.new).steps (S.content result.1) (K.written out.new))) }
-    ensures refused { W.tells → S.tells → IfRefused result.0 (IsRefusedOrder (Ok (Run order.now)) env.now (W.state world.old).files (S.content store)) }
+    ensures refused { W.tells → S.tells → IfRefused result.0 (IsRefusedRun order.now env.now (W.state world.old).files (S.content store)) }
     ensures unstarted { IfRefused result.0 (λ _. W.runs world.new ≡ W.runs world.old) }
     ensures untouched { IfRefused result.0 (λ _. (W.state world.new).files ≡ (W.state world.old).files) }
     ensures same { S.tells → 9 < length (S.content store) → IfRefused result.0 (λ _. S.content result.1 ≡ S.content store) }
     ensures line { K.tells → IfRefused result.0 (λ reason. K.written out.new ≡ K.written out.old ++ line_of (refusal_text reason)) }
-    ensures stopped { W.tells → S.tells → K.tells → IfFault result.0 (StoppedBy (Ok (Run order.now)) (W.effect (W.runs world.old).book) env.now
+    ensures stopped { W.tells → S.tells → K.tells → IfFault result.0 (StoppedRun (IsRefusedRun order.now env.now (W.state world.old).files (S.content store)) order.now (W.effect (W.runs world.old).book) env.now
         (moment_of (W.state world.old).files (W.runs world.old).steps (S.content store) (K.written out.old)) (K.written out.new)) }
     ensures elsewhere { W.tells → MayChangeBy (Ok (Run order.now)) env.now (W.state world.old).files (W.state world.new).files }
     ensures cause { HasCauseIn (counts_of (W.state world.old).faults (S.store_faults store) (W.runs world.old).faults (K.faults out.old))
@@ -91,12 +90,48 @@ pub fn run_order<W: Spawner, S: StoreDevice, K: Sink>(
     }
 }
 
+/// Does what `turbo` does with words that are an order to run. What is not built is refused before anything is read.
+pub fn run_order<W: Spawner, S: StoreDevice, K: Sink>(
+    alloc: Global,
+    order: &RunOrder,
+    env: &[(Text, Text)],
+    world: &mut W,
+    store: S,
+    out: &mut K,
+) -> (Answer, S)
+    requires idle { IsIdle (W.runs world.old) }
+    requires wide { 0 < order.now.width }
+    requires narrow { order.now.width ≤ width_limit }
+    ensures idle { IsIdle (W.runs world.new) }
+    ensures ran { W.tells → S.tells → IfDone result.0 (RanOrder (W.effect (W.runs world.old).book) order.now env.now K.tells
+        (moment_of (W.state world.old).files (W.runs world.old).steps (S.content store) (K.written out.old))
+        (moment_of (W.state world.new).files (W.runs world.new).steps (S.content result.1) (K.written out.new))) }
+    ensures refused { W.tells → S.tells → IfRefused result.0 (IsRefusedOrder (Ok (Run order.now)) env.now (W.state world.old).files (S.content store)) }
+    ensures only { W.tells → S.tells → HasNoOtherBy (Ok (Run order.now)) env.now (W.state world.old).files (S.content store) result.0 }
+    ensures unstarted { IfRefused result.0 (λ _. W.runs world.new ≡ W.runs world.old) }
+    ensures untouched { IfRefused result.0 (λ _. (W.state world.new).files ≡ (W.state world.old).files) }
+    ensures same { S.tells → 9 < length (S.content store) → IfRefused result.0 (λ _. S.content result.1 ≡ S.content store) }
+    ensures line { K.tells → IfRefused result.0 (λ reason. K.written out.new ≡ K.written out.old ++ line_of (refusal_text reason)) }
+    ensures stopped { W.tells → S.tells → K.tells → IfFault result.0 (StoppedBy (Ok (Run order.now)) (W.effect (W.runs world.old).book) env.now
+        (moment_of (W.state world.old).files (W.runs world.old).steps (S.content store) (K.written out.old)) (K.written out.new)) }
+    ensures elsewhere { W.tells → MayChangeBy (Ok (Run order.now)) env.now (W.state world.old).files (W.state world.new).files }
+    ensures cause { HasCauseIn (counts_of (W.state world.old).faults (S.store_faults store) (W.runs world.old).faults (K.faults out.old))
+        (counts_of (W.state world.new).faults (S.store_faults result.1) (W.runs world.new).faults (K.faults out.new)) result.0 }
+{
+    order_law();
+    match unbuilt_run(order) {
+        Some(form) => (refuse(alloc, Refusal::NotBuilt { form }, out), store),
+        None => run_built(alloc, order, env, world, store, out),
+    }
+}
+
 /// Does all that the program does. `words` are those after the program's name, `env` the pairs of the environment. The
 /// store's device is kept while a run goes on, and handed back beside the answer.
 ///
 /// An order to run makes a plan of the repository, opens the store, looks tasks up in it and runs the others, and prints
 /// the page as it comes; `--dry` says what a run would do. The first word `help`, or none, prints how the program is
-/// called. Orders to prune are not built.
+/// called. What is not built is refused by its number before anything is read: orders to prune, to sample and to make the store
+/// smaller, and runs with `--continue=always`, `--shared` or a `--cache` other than `local:rw`.
 ///
 /// A refusal's line is all that is printed; nothing was started then and nothing changed, but that a store of at most nine
 /// bytes may be made anew. What is tried comes in the order of `IsRefused`. After a fault of the tree, the store or of
@@ -129,12 +164,24 @@ pub fn turbo<W: Spawner, S: StoreDevice, K: Sink>(
         (counts_of (W.state world.new).faults (S.store_faults result.1) (W.runs world.new).faults (K.faults out.new)) → IsNoFault result.0 }
 {
     width_law();
-    order_law();
     match Order::read(alloc, words) {
         Ok(Order::Run(order)) => run_order(alloc, &order, env, world, store, out),
         Ok(Order::Help) => (help(alloc, out), store),
-        Ok(Order::Prune { targets: _ }) => (
+        Ok(
+            Order::Prune {
+                targets: _,
+                docker: _,
+            },
+        ) => (
             refuse(alloc, Refusal::NotBuilt { form: PRUNE_FORM }, out),
+            store,
+        ),
+        Ok(Order::Sample { size: _ }) => (
+            refuse(alloc, Refusal::NotBuilt { form: SAMPLE_FORM }, out),
+            store,
+        ),
+        Ok(Order::Compact { keep: _ }) => (
+            refuse(alloc, Refusal::NotBuilt { form: COMPACT_FORM }, out),
             store,
         ),
         Err(fault) => (refuse_words(alloc, fault, out), store),

@@ -2,8 +2,8 @@
 ghost use Rattle.spawn_dev.specs.Spawn.{IsIdle};
 
 use crate::scene::read_text;
-use crate::vast::Vast;
 use anyhow::{Context, Result};
+use case_files::Vast;
 use rel_path::{Bytes, Files, Pairs, Text, Texts};
 use spawn_dev::{MemWorld, Spawner};
 use std::alloc::Global;

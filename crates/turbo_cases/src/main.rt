@@ -15,7 +15,6 @@ mod many;
 mod scene;
 mod steps;
 mod tally;
-mod vast;
 
 use anyhow::Result;
 use cases::run_group;

@@ -5,8 +5,8 @@ use crate::faults::{Fault, Faults, faults_of};
 use crate::format::{Case, Group, Step};
 use crate::many::push_many;
 use crate::scene::Scene;
-use crate::vast::Vast;
 use anyhow::{Context, Result};
+use case_files::Vast;
 use rel_path::{Pairs, Text, Texts};
 use spawn_dev::MemWorld;
 use std::alloc::Global;
@@ -101,7 +101,7 @@ pub fn run_step(
     } = faults_of(alloc, step, fault)?;
     let given = given_to(alloc, group, case, step, scene, world, output)?;
     if let Some(room) = step.room {
-        return call_full(alloc, given, Vast::with_room(alloc, room)?);
+        return call_full(alloc, given, Vast::with_room(alloc, room.into())?);
     }
     let device = MemStore::new(alloc, scene.store.copy()?, store);
     call(alloc, given, FuseStore::new(device, pass), crash)

@@ -2,3 +2,4 @@ mod Hashes
 mod Prefixes
 mod Gains
 mod Listed
+mod Places

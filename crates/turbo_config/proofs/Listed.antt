@@ -1,7 +1,8 @@
 -- What is read has lists of globs that read.
-use Rattle.std.proofs.Common.{◌≡◌, ◌==◌, ◌+◌, ℕ, Bool, true, false, cond, List, [], ◌∷◌, Option, Some, None, Result, Ok, Err, Ordering, Less, Equal, Greater, refl, subst}
-use Rattle.std.specs.Prelude.{unwrap_or}
+use Rattle.std.proofs.Common.{◌≡◌, ◌==◌, ◌+◌, ℕ, Bool, true, false, cond, List, [], ◌∷◌, ◌++◌, Option, Some, None, Result, Ok, Err, Ordering, Less, Equal, Greater, refl, subst}
+use Rattle.std.specs.Prelude.{not, unwrap_or}
 use Rattle.std.specs.Option.{IfSome, option_copied}
+use Rattle.std.specs.List.{AllByRecursion}
 use Rattle.std.specs.Borrow.{Bor}
 use Rattle.std.specs.Map.{lookup}
 use Rattle.std.specs.Ordering.{match_ordering}
@@ -16,18 +17,19 @@ use Rattle.glob_syntax.specs.declared.error.GlobErr.{GlobErr}
 use Rattle.globs.specs.Lists.{fault_in, at_index, list_fault}
 use Rattle.turbo_config.specs.declared.error.ConfigErr.{ConfigErr}
 use Rattle.turbo_config.specs.declared.entry.Entry.{Entry}
+use Rattle.turbo_config.specs.declared.entry.LogMode.{LogMode}
 use Rattle.turbo_config.specs.declared.files.Globals.{Globals}
 use Rattle.turbo_config.specs.declared.tasks.FileKind.{FileKind}
 use Rattle.turbo_config.specs.declared.glob_fault.ListKind.{ListKind}
 use Rattle.turbo_config.specs.declared.glob_fault.ListKind.TheVariants as kind
-use Rattle.turbo_config.specs.declared.keys.TheConstants.{DEPENDS_ON, INPUTS, OUTPUTS, ENV, PASS, CACHE, PERSISTENT, INTERACTIVE, ENV_MODE, GLOBAL_INPUTS, GLOBAL_ENV, GLOBAL_PASS}
+use Rattle.turbo_config.specs.declared.keys.TheConstants.{DEPENDS_ON, INPUTS, OUTPUTS, ENV, PASS, WITH, CACHE, PERSISTENT, INTERACTIVE, INTERRUPTIBLE, LOGS, ENV_MODE, GLOBAL_INPUTS, GLOBAL_ENV, GLOBAL_PASS}
 use Rattle.turbo_config.specs.Answers.{◌>>=◌, unless}
 use Rattle.turbo_config.specs.Keys.{task_keys, top_keys}
-use Rattle.turbo_config.specs.Globs.{input_fault, glob_fault, fault_of, item_at, fault_of_item, first_glob_fault}
+use Rattle.turbo_config.specs.Globs.{default_text, input_fault, glob_fault, fault_of, item_at, fault_of_item, first_glob_fault}
 use Rattle.turbo_config.specs.Values.{flag_at, texts_at, list_at, members_at, log_mode_at, env_mode_at}
-use Rattle.turbo_config.specs.Entries.{no_keys, or_else, over, def_of}
+use Rattle.turbo_config.specs.Entries.{is_extends, without_extends, extended_array, array_over, no_keys, over, def_of}
 use Rattle.turbo_config.specs.Reads.{AreGlobs, AreInputs, AreOfKind, EntryReads, DefReads, EntriesRead}
-use Rattle.turbo_config.specs.Tasks.{list_kind, with_list, with_flag, with_value, with_key, with_member, with_members, key_fault, task_pointer, entry_at, task_in}
+use Rattle.turbo_config.specs.Tasks.{list_kind, with_list, with_flag, with_mode, with_value, with_key, with_member, with_members, key_fault, task_pointer, entry_at, task_in}
 use Rattle.turbo_config.specs.Files.{no_globals, with_top_key, with_top_member, with_top_members, globals_in}
 
 -- ---- steps that were Ok
@@ -74,41 +76,47 @@ list_reads k at d texts e =
 
 -- ---- one key of a task
 
-list_by_place : (d i o v p : Bool) (texts : List (List ℕ)) (e : Entry) → EntryReads e → AreOfKind (cond i kind.Inputs (cond o kind.Globs kind.Texts)) texts
-    → EntryReads (cond d (record e { depends_on = Some texts }) (cond i (record e { inputs = Some texts }) (cond o (record e { outputs = Some texts }) (cond v (record e { env = Some texts }) (cond p (record e { pass = Some texts }) (record e { with_tasks = Some texts }))))))
-list_by_place true i o v p texts e h k = h
-list_by_place false true o v p texts e h k = (k, h.1)
-list_by_place false false true v p texts e h k = (h.0, k)
-list_by_place false false false true p texts e h k = h
-list_by_place false false false false true texts e h k = h
-list_by_place false false false false false texts e h k = h
+list_by_place : (d i o v p w : Bool) (texts : List (List ℕ)) (e : Entry) → EntryReads e → AreOfKind (cond i kind.Inputs (cond o kind.Globs kind.Texts)) texts
+    → EntryReads (cond d (record e { depends_on = Some texts }) (cond i (record e { inputs = Some texts }) (cond o (record e { outputs = Some texts }) (cond v (record e { env = Some texts }) (cond p (record e { pass = Some texts }) (cond w (record e { with_tasks = Some texts }) e))))))
+list_by_place true i o v p w texts e h k = h
+list_by_place false true o v p w texts e h k = (k, h.1)
+list_by_place false false true v p w texts e h k = (h.0, k)
+list_by_place false false false true p w texts e h k = h
+list_by_place false false false false true w texts e h k = h
+list_by_place false false false false false true texts e h k = h
+list_by_place false false false false false false texts e h k = h
 
-flag_by_place : (c p i flag : Bool) (e : Entry) → EntryReads e
-    → EntryReads (cond c (record e { cache = Some flag }) (cond p (record e { persistent = Some flag }) (cond i (record e { interactive = Some flag }) (record e { interruptible = Some flag }))))
-flag_by_place true p i flag e h = h
-flag_by_place false true i flag e h = h
-flag_by_place false false true flag e h = h
-flag_by_place false false false flag e h = h
+flag_by_place : (c p i r flag : Bool) (e : Entry) → EntryReads e
+    → EntryReads (cond c (record e { cache = Some flag }) (cond p (record e { persistent = Some flag }) (cond i (record e { interactive = Some flag }) (cond r (record e { interruptible = Some flag }) e))))
+flag_by_place true p i r flag e h = h
+flag_by_place false true i r flag e h = h
+flag_by_place false false true r flag e h = h
+flag_by_place false false false true flag e h = h
+flag_by_place false false false false flag e h = h
+
+mode_by_place : (m : Bool) (mode : LogMode) (e : Entry) → EntryReads e → EntryReads (cond m (record e { logs = Some mode }) e)
+mode_by_place true mode e h = h
+mode_by_place false mode e h = h
 
 list_keeps : (place : ℕ) (at : List ℕ) (d : Data) (e out : Entry) → EntryReads e → (list_at (list_kind place) at d >>= λ texts. Ok (with_list place texts e)) ≡ Ok out → EntryReads out
 list_keeps place at d e out h r =
     let s = from_ok (list_at (list_kind place) at d) (λ texts. Ok (with_list place texts e)) out r in
     let same : with_list place s.0 e ≡ out = cc in
-    subst EntryReads same (list_by_place (place == DEPENDS_ON) (place == INPUTS) (place == OUTPUTS) (place == ENV) (place == PASS) s.0 e h (list_reads (list_kind place) at d s.0 s.1))
+    subst EntryReads same (list_by_place (place == DEPENDS_ON) (place == INPUTS) (place == OUTPUTS) (place == ENV) (place == PASS) (place == WITH) s.0 e h (list_reads (list_kind place) at d s.0 s.1))
 
 value_keeps : (k : Kind) (place : ℕ) (at : List ℕ) (d : Data) (e out : Entry) → EntryReads e → with_value k place at d e ≡ Ok out → EntryReads out
 value_keeps shape.Flag place at d e out h r =
     let s = from_ok (flag_at at d) (λ flag. Ok (with_flag place flag e)) out r in
     let same : with_flag place s.0 e ≡ out = cc in
-    subst EntryReads same (flag_by_place (place == CACHE) (place == PERSISTENT) (place == INTERACTIVE) s.0 e h)
+    subst EntryReads same (flag_by_place (place == CACHE) (place == PERSISTENT) (place == INTERACTIVE) (place == INTERRUPTIBLE) s.0 e h)
 value_keeps shape.Choice place at d e out h r =
-    let s = from_ok (log_mode_at at d) (λ mode. Ok (record e { logs = Some mode })) out r in
-    let same : record e { logs = Some s.0 } ≡ out = cc in
-    subst EntryReads same h
-value_keeps shape.Word place at d e out h r = list_keeps place at d e out h r
+    let s = from_ok (log_mode_at at d) (λ mode. Ok (with_mode place mode e)) out r in
+    let same : with_mode place s.0 e ≡ out = cc in
+    subst EntryReads same (mode_by_place (place == LOGS) s.0 e h)
+value_keeps shape.Word place at d e out h r = absurd (cc)
 value_keeps shape.Words place at d e out h r = list_keeps place at d e out h r
-value_keeps shape.Number place at d e out h r = list_keeps place at d e out h r
-value_keeps shape.Top place at d e out h r = list_keeps place at d e out h r
+value_keeps shape.Number place at d e out h r = absurd (cc)
+value_keeps shape.Top place at d e out h r = absurd (cc)
 
 key_keeps : (o : Option Key) (at : List ℕ) (d : Data) (e out : Entry) → EntryReads e → with_key o at d e ≡ Ok out → EntryReads out
 key_keeps None at d e out h r = absurd (cc)
@@ -154,9 +162,57 @@ found_reads test (e ∷ es) all = by (test e.0) (found_reads test es all.1)
 
 -- ---- the definition
 
-or_else_reads : (P : List (List ℕ) → Type 0) (above below : Option (List (List ℕ))) → IfSome above P → IfSome below P → IfSome (or_else above below) P
-or_else_reads P None below a b = b
-or_else_reads P (Some texts) below a b = a
+all-append : (P : List ℕ → Type 0) (xs ys : List (List ℕ)) → AllByRecursion P xs → AllByRecursion P ys → AllByRecursion P (xs ++ ys)
+all-append P [] ys a b = b
+all-append P (x ∷ xs) ys a b = (a.0, all-append P xs ys a.1 b)
+
+all-without : (P : List ℕ → Type 0) (texts : List (List ℕ)) → AllByRecursion P texts → AllByRecursion P (without_extends texts)
+all-without P [] all = tt
+all-without P (text ∷ texts) all = by (is_extends text) (all-without P texts all.1)
+  where
+    by : (b : Bool) → AllByRecursion P (without_extends texts) → AllByRecursion P (cond (not b) (text ∷ without_extends texts) (without_extends texts))
+    by true rest = rest
+    by false rest = (all.0, rest)
+
+all-extended : (P : List ℕ → Type 0) (start texts : List (List ℕ)) → AllByRecursion P start → AllByRecursion P texts → AllByRecursion P (extended_array start texts)
+unfolding extended_array
+all-extended P start [] s all = tt
+all-extended P start (text ∷ texts) s all = by (is_extends text) (all-append P start (without_extends texts) s (all-without P texts all.1)) (all-extended P start texts s all.1)
+  where
+    by : (b : Bool) → AllByRecursion P (start ++ without_extends texts) → AllByRecursion P (extended_array start texts) → AllByRecursion P (cond b (start ++ without_extends texts) (text ∷ extended_array start texts))
+    by true here later = here
+    by false here later = (all.0, later)
+
+array_reads : (P : List ℕ → Type 0) (default : List (List ℕ)) (below above : Option (List (List ℕ))) → AllByRecursion P default → IfSome below (AllByRecursion P) → IfSome above (AllByRecursion P) → IfSome (array_over default below above) (AllByRecursion P)
+array_reads P default below None d b a = b
+array_reads P default None (Some above) d b a = all-extended P default above d a
+array_reads P default (Some below) (Some above) d b a = all-extended P below above b a
+
+-- of globs the fault of a list tells a place; that there is none says so of each
+
+each_glob : (k : ℕ) (texts : List (List ℕ)) → list_fault k texts ≡ None → AllByRecursion (λ text. fault_in text ≡ None) texts
+each_glob k [] e = tt
+each_glob k (text ∷ texts) e = by (fault_in text) refl (each_glob (k + 1) texts) e
+  where
+    by : (o : Option GlobErr) → fault_in text ≡ o → (list_fault (k + 1) texts ≡ None → AllByRecursion (λ text. fault_in text ≡ None) texts) → at_index k o (list_fault (k + 1) texts) ≡ None → (fault_in text ≡ None) × AllByRecursion (λ text. fault_in text ≡ None) texts
+    by None is rest e = (is, rest e)
+    by (Some fault) is rest e = absurd (cc)
+
+all_globs : (k : ℕ) (texts : List (List ℕ)) → AllByRecursion (λ text. fault_in text ≡ None) texts → list_fault k texts ≡ None
+all_globs k [] all = refl
+all_globs k (text ∷ texts) all = rw all.0 (all_globs (k + 1) texts all.1)
+
+some_each : (o : Option (List (List ℕ))) → IfSome o AreGlobs → IfSome o (AllByRecursion (λ text. fault_in text ≡ None))
+some_each None h = tt
+some_each (Some texts) h = each_glob 0 texts h
+
+some_globs : (o : Option (List (List ℕ))) → IfSome o (AllByRecursion (λ text. fault_in text ≡ None)) → IfSome o AreGlobs
+some_globs None h = tt
+some_globs (Some texts) h = all_globs 0 texts h
+
+default_is_input : AreInputs (default_text ∷ [])
+unfolding input_fault
+default_is_input = (refl, tt)
 
 default_reads : (o : Option (List (List ℕ))) → IfSome o AreGlobs → AreGlobs (unwrap_or o [])
 default_reads None h = refl
@@ -164,8 +220,10 @@ default_reads (Some texts) h = h
 
 pub def_reads : (below above : Entry) → EntryReads below → EntryReads above → DefReads (def_of (over below above))
 unfolding over def_of
-def_reads below above b a =
-    (or_else_reads AreInputs above.inputs below.inputs a.0 b.0, default_reads (or_else above.outputs below.outputs) (or_else_reads AreGlobs above.outputs below.outputs a.1 b.1))
+def_reads below above b a = (
+  array_reads (λ text. input_fault text ≡ None) (default_text ∷ []) below.inputs above.inputs default_is_input b.0 a.0,
+  default_reads (array_over [] below.outputs above.outputs) (some_globs _ (array_reads (λ text. fault_in text ≡ None) [] below.outputs above.outputs tt (some_each _ b.1) (some_each _ a.1))),
+)
 
 -- ---- the global keys
 

@@ -1,5 +1,5 @@
 -- What reading answers: one value, or the first fault.
-use Rattle.std.specs.Prelude.{◌≡◌, ◌⊎◌, Option, None, Some, Result, Ok, Err, MatchResult, IfErr}
+use Rattle.std.specs.Prelude.{◌≡◌, ◌⊎◌, Option, None, Some, Result, Ok, Err, MatchResult}
 use Rattle.turbo_config.specs.declared.error.ConfigErr.{ConfigErr}
 use Rattle.turbo_config.specs.declared.error.ConfigErr.TheVariants.{OutOfMemory}
 
@@ -34,7 +34,3 @@ ReadsInto meant result new = MatchResult result (λ _. meant ≡ Ok new) (λ e. 
 -- a test answers the fault; want of memory may come at any time
 abbrev pub Passes : {A : Type 0} → Option ConfigErr → Result A ConfigErr → Type 0
 Passes fault result = MatchResult result (λ _. fault ≡ None) (λ e. (e ≡ OutOfMemory) ⊎ (fault ≡ Some e))
-
--- the only error is want of memory
-abbrev pub OnlyMemory : {A : Type 0} → Result A ConfigErr → Type 0
-OnlyMemory result = IfErr result (λ e. e ≡ OutOfMemory)

@@ -1,5 +1,6 @@
 -- What the bytes of a turbo.json mean (Turborepo, "Configuring turbo.json" and "Package Configurations"; JSON with comments and trailing commas).
-use Rattle.std.specs.Prelude.{ℕ, ◌==◌, Bool, false, if◌then◌else◌, List, [], ◌∷◌, Option, Some, None, is_some, Result, Ok, codes}
+use Rattle.std.specs.Prelude.{ℕ, ◌==◌, nat_eq, Bool, false, if◌then◌else◌, List, [], ◌∷◌, Option, Some, None, is_some, Result, Ok, codes}
+use Rattle.std.specs.List.{list_any}
 use Rattle.serde_json.specs.Data.{Data, Members, no_members, member}
 use Rattle.json_view.specs.Plain.{plain, open_comment}
 use Rattle.json_view.specs.Reading.{reading}
@@ -13,9 +14,10 @@ use Rattle.turbo_config.specs.declared.files.Globals.{Globals}
 use Rattle.turbo_config.specs.RootFile.{RootFile}
 use Rattle.turbo_config.specs.declared.files.PackageConfig.{PackageConfig}
 use Rattle.turbo_config.specs.declared.tasks.FileKind.TheVariants.{Root, Package}
-use Rattle.turbo_config.specs.declared.keys.TheConstants.{ENV_MODE, GLOBAL_INPUTS, GLOBAL_ENV, GLOBAL_PASS}
+use Rattle.turbo_config.specs.declared.keys.TheConstants.{ENV_MODE, GLOBAL_INPUTS, GLOBAL_ENV, GLOBAL_PASS, TASKS, PIPELINE, EXTENDS}
 use Rattle.turbo_config.specs.Answers.{◌>>=◌, unless, or_fault}
 use Rattle.turbo_config.specs.Keys.{top_keys}
+use Rattle.turbo_config.specs.Names.{root_name}
 use Rattle.turbo_config.specs.declared.glob_fault.ListKind.TheVariants.{Globs, Texts}
 use Rattle.turbo_config.specs.Values.{list_at, members_at, env_mode_at}
 use Rattle.turbo_config.specs.Tasks.{tasks_of}
@@ -37,7 +39,7 @@ unfoldable pub pipeline_fault : Data → Option ConfigErr
 pipeline_fault d = if is_some (value_in (codes "/pipeline") d) then Some Pipeline else None
 
 abbrev pub is_root_alone : List (List ℕ) → Bool
-is_root_alone texts = path_eq texts (codes "//" ∷ [])
+is_root_alone texts = path_eq texts (root_name ∷ [])
 
 abbrev pub extends_root : Look (List (List ℕ)) → Bool
 extends_root Nothing = false
@@ -50,6 +52,11 @@ extends_fault d = if extends_root (texts_in (codes "/extends") d) then None else
 
 abbrev pub no_globals : Globals
 no_globals = record { inputs = []; env = []; pass = []; env_mode = None }
+
+-- the places of the keys at the top
+abbrev pub is_top : ℕ → Bool
+is_top place =
+    list_any (nat_eq place) (ENV_MODE ∷ GLOBAL_INPUTS ∷ GLOBAL_ENV ∷ GLOBAL_PASS ∷ TASKS ∷ PIPELINE ∷ EXTENDS ∷ [])
 
 -- one more key; those that are none of the four say nothing here
 abbrev pub with_global : ℕ → List ℕ → Data → Globals → Result Globals ConfigErr

@@ -9,16 +9,21 @@ use Rattle.globs.specs.Lists.{fault_in}
 use Rattle.json_view.specs.Pointer.{pointer_to}
 use Rattle.turbo_config.specs.declared.error.ConfigErr.{ConfigErr}
 use Rattle.turbo_config.specs.declared.error.ConfigErr.TheVariants.{Glob, OutOfMemory}
+use Rattle.turbo_config.specs.declared.glob_fault.TheConstants.{ROOT_CHARS, NOT_ROOT_CHARS}
 use Rattle.turbo_config.specs.declared.glob_fault.ListKind.{ListKind}
 use Rattle.turbo_config.specs.declared.glob_fault.ListKind.TheVariants as kind
+
+-- stands for the default inputs
+abbrev pub default_text : List ℕ
+default_text = codes "$TURBO_DEFAULT$"
 
 -- Why an entry of `inputs` is no glob, with its place in the whole text. `$TURBO_DEFAULT$` stands for the default inputs; a glob
 -- behind `$TURBO_ROOT$/` is relative to the root; each other entry is an optional `!` and a glob.
 unfoldable pub input_fault : List ℕ → Option GlobErr
 input_fault text =
-    if bytes_eq text (codes "$TURBO_DEFAULT$") then None else
-    (if starts_with eqb text (codes "$TURBO_ROOT$/") then fault_at 13 (chars (drop 13 text)) else
-    (if starts_with eqb text (codes "!$TURBO_ROOT$/") then fault_at 14 (chars (drop 14 text)) else
+    if bytes_eq text default_text then None else
+    (if starts_with eqb text (codes "$TURBO_ROOT$/") then fault_at ROOT_CHARS (chars (drop ROOT_CHARS text)) else
+    (if starts_with eqb text (codes "!$TURBO_ROOT$/") then fault_at NOT_ROOT_CHARS (chars (drop NOT_ROOT_CHARS text)) else
     fault_in text))
 
 -- Why an entry of `outputs` or `globalDependencies` is none: it is an optional `!` and a glob.

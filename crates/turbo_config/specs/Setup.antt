@@ -1,6 +1,6 @@
 -- The tasks of a repository by its files (Turborepo, "Configuring turbo.json" and "Package Configurations"; that an entry `package#task` of the root stands for `task` whole is this project's own).
 use Rattle.std.specs.Prelude.{◌≡◌, ℕ, ◌&&◌, ◌||◌, ◌++◌, Bool, false, not, if◌then◌else◌, List, [], ◌∷◌, Option, Some, None, option_and_then, option_to_list}
-use Rattle.std.specs.Option.{option_map}
+use Rattle.std.specs.Option.{option_map, option_or}
 use Rattle.std.specs.List.{list_any}
 use Rattle.std.specs.List.Sorted.{IsStrictlySortedBy}
 use Rattle.std.specs.Map.{keys_of}
@@ -12,8 +12,8 @@ use Rattle.turbo_config.specs.declared.entry.TaskDef.{TaskDef}
 use Rattle.turbo_config.specs.declared.files.Globals.{Globals}
 use Rattle.turbo_config.specs.RootFile.{RootFile}
 use Rattle.turbo_config.specs.declared.files.PackageConfig.{PackageConfig}
-use Rattle.turbo_config.specs.Names.{has_hash, behind_hash, full_name, is_task_name}
-use Rattle.turbo_config.specs.Entries.{at_name, or_else, no_keys, over, def_of}
+use Rattle.turbo_config.specs.Names.{has_hash, behind_hash, full_name, root_name, is_root_name, is_task_name}
+use Rattle.turbo_config.specs.Entries.{at_name, no_keys, over, def_of}
 use Rattle.turbo_config.specs.Files.{no_globals}
 
 -- ---- the files of a repository
@@ -59,18 +59,17 @@ is_among names name = list_any (is_at (name_cmp name)) names
 
 -- the root's entry for a task of a package: `package#task`, or else `task`
 abbrev pub root_entry : Tasks → List ℕ → List ℕ → Option Entry
-root_entry tasks pkg task = or_else (at_name tasks (full_name pkg task)) (at_name tasks task)
+root_entry tasks pkg task = option_or (at_name tasks (full_name pkg task)) (at_name tasks task)
 
 -- the package's own
 abbrev pub own_entry : List (List ℕ × PackageConfig) → List ℕ → List ℕ → Option Entry
 own_entry packages pkg task = option_and_then (λ config. at_name config.tasks task) (at_name packages pkg)
 
--- from the root's entry on, or from no key, with the package's own over it, where there is one of them
-abbrev pub merged : Option Entry → Option Entry → Option Entry
-merged None None = None
-merged None (Some above) = Some (over no_keys above)
-merged (Some below) None = Some (over below no_keys)
-merged (Some below) (Some above) = Some (over below above)
+-- the root's entry, or no key, with the package's own over it, where there is one of them
+abbrev pub merged_entry : Option Entry → Option Entry → Option Entry
+merged_entry below None = below
+merged_entry None (Some above) = Some (over no_keys above)
+merged_entry (Some below) (Some above) = Some (over below above)
 
 -- without a turbo.json at the root: some package has a script of the name, which is one that a task may have
 abbrev pub is_script_task : List (List ℕ) → List ℕ → Bool
@@ -82,15 +81,26 @@ script_entry scripts task = if is_script_task scripts task then Some no_keys els
 -- with one: the entries for a name that a task may have. Of the files' keys no other comes up here: a `package#task` of the
 -- root is looked up by its `task`, and a key that ends in no task's name is refused when its file is read
 abbrev pub file_entry : Tasks → List (List ℕ × PackageConfig) → List ℕ → List ℕ → Option Entry
-file_entry tasks packages pkg task = if is_task_name task then merged (root_entry tasks pkg task) (own_entry packages pkg task) else None
+file_entry tasks packages pkg task =
+    if is_task_name task then merged_entry (root_entry tasks pkg task) (own_entry packages pkg task) else None
 
 abbrev pub entry_by : Option Tasks → Setup → List ℕ → List ℕ → Option Entry
 entry_by None setup pkg task = script_entry setup.scripts task
 entry_by (Some tasks) setup pkg task = file_entry tasks setup.packages pkg task
 
--- the definition of a task of a package, if it has one
+-- a task of the root is what the key `//#task` of the root's file says, and nothing else
+abbrev pub root_task_entry : Option Tasks → List ℕ → Option Entry
+root_task_entry None task = None
+root_task_entry (Some tasks) task =
+    if is_task_name task then at_name tasks (full_name root_name task) else None
+
+abbrev pub entry_of : Setup → List ℕ → List ℕ → Option Entry
+entry_of setup pkg task =
+    if is_root_name pkg then root_task_entry setup.root task else entry_by setup.root setup pkg task
+
+-- the definition of a task of a package or of the root, if it has one
 unfoldable pub task_def : Setup → List ℕ → List ℕ → Option TaskDef
-task_def setup pkg task = option_map def_of (entry_by setup.root setup pkg task)
+task_def setup pkg task = option_map def_of (entry_of setup pkg task)
 
 -- ---- names
 
@@ -98,6 +108,14 @@ task_def setup pkg task = option_map def_of (entry_by setup.root setup pkg task)
 abbrev pub tails_of : List (List ℕ) → List (List ℕ)
 tails_of [] = []
 tails_of (key ∷ keys) = option_to_list (behind_hash key) ++ tails_of keys
+
+-- the name stands behind the first `#` of the key
+abbrev pub is_tail : List ℕ → List ℕ → Bool
+is_tail key name = is_among (option_to_list (behind_hash key)) name
+
+-- a name without `#` that is one of these
+abbrev pub is_plain_among : List (List ℕ) → List ℕ → Bool
+is_plain_among names name = not (has_hash name) && is_among names name
 
 -- a key of the root is `package#task` of this task
 unfoldable pub ends_in : Option Tasks → List ℕ → Bool
@@ -107,6 +125,9 @@ ends_in (Some tasks) task = is_among (tails_of (keys_of tasks)) task
 -- some package's file has the task
 abbrev pub is_own : List (List ℕ × PackageConfig) → List ℕ → Bool
 is_own packages task = list_any (λ p. is_among (keys_of p.1.tasks) task) packages
+
+abbrev pub is_plain_own : List (List ℕ × PackageConfig) → List ℕ → Bool
+is_plain_own packages name = not (has_hash name) && is_own packages name
 
 -- The name, which holds no `#`, is that of a task: a key of the root, or the end of one behind its `#`, or a key of a package's
 -- file. Without a turbo.json at the root it is that of a script.

@@ -1,5 +1,6 @@
 -- How `tasks` of a turbo.json is read: its keys ascending, and in each task the keys of that task ascending (Turborepo, "Configuring turbo.json", "tasks").
-use Rattle.std.specs.Prelude.{ℕ, ◌==◌, Bool, false, not, if◌then◌else◌, List, [], Option, Some, None, Result, Ok, Err, codes}
+use Rattle.std.specs.Prelude.{ℕ, ◌==◌, nat_eq, Bool, false, not, if◌then◌else◌, List, [], ◌∷◌, Option, Some, None, Result, Ok, Err, codes}
+use Rattle.std.specs.List.{list_any}
 use Rattle.std.specs.BTreeMap.{insert_entry}
 use Rattle.serde_json.specs.Data.{Data, Members, no_members, member}
 use Rattle.json_view.specs.Pointer.{pointer_to}
@@ -10,9 +11,10 @@ use Rattle.rel_path.specs.Paths.{name_cmp}
 use Rattle.turbo_config.specs.declared.error.ConfigErr.{ConfigErr}
 use Rattle.turbo_config.specs.declared.error.ConfigErr.TheVariants.{TaskName, ForeignKey, UnknownKey}
 use Rattle.turbo_config.specs.declared.entry.Entry.{Entry}
+use Rattle.turbo_config.specs.declared.entry.LogMode.{LogMode}
 use Rattle.turbo_config.specs.declared.tasks.FileKind.{FileKind}
 use Rattle.turbo_config.specs.declared.tasks.FileKind.TheVariants.{Root, Package}
-use Rattle.turbo_config.specs.declared.keys.TheConstants.{DEPENDS_ON, INPUTS, OUTPUTS, ENV, PASS, CACHE, PERSISTENT, INTERACTIVE}
+use Rattle.turbo_config.specs.declared.keys.TheConstants.{DEPENDS_ON, INPUTS, OUTPUTS, ENV, PASS, WITH, CACHE, PERSISTENT, INTERACTIVE, INTERRUPTIBLE, LOGS}
 use Rattle.turbo_config.specs.Answers.{◌>>=◌, unless}
 use Rattle.turbo_config.specs.Keys.{task_keys}
 use Rattle.turbo_config.specs.Names.{has_hash, task_of, is_task_name}
@@ -22,6 +24,23 @@ use Rattle.turbo_config.specs.Values.{flag_at, list_at, members_at, log_mode_at}
 use Rattle.turbo_config.specs.Entries.{no_keys}
 
 -- ---- one key of a task
+
+-- the places of lists, of flags, and of the log mode
+abbrev pub is_list : ℕ → Bool
+is_list place = list_any (nat_eq place) (DEPENDS_ON ∷ INPUTS ∷ OUTPUTS ∷ ENV ∷ PASS ∷ WITH ∷ [])
+
+abbrev pub is_flag : ℕ → Bool
+is_flag place = list_any (nat_eq place) (CACHE ∷ PERSISTENT ∷ INTERACTIVE ∷ INTERRUPTIBLE ∷ [])
+
+abbrev pub is_mode : ℕ → Bool
+is_mode place = place == LOGS
+
+-- a task has a key of this kind at the place
+abbrev pub is_place : Kind → ℕ → Bool
+is_place kind.Flag place = is_flag place
+is_place kind.Choice place = is_mode place
+is_place kind.Words place = is_list place
+is_place other place = false
 
 -- what the list of this place has
 abbrev pub list_kind : ℕ → ListKind
@@ -33,25 +52,31 @@ with_list place texts e =
     (if place == INPUTS then record e { inputs = Some texts } else
     (if place == OUTPUTS then record e { outputs = Some texts } else
     (if place == ENV then record e { env = Some texts } else
-    (if place == PASS then record e { pass = Some texts } else record e { with_tasks = Some texts }))))
+    (if place == PASS then record e { pass = Some texts } else
+    (if place == WITH then record e { with_tasks = Some texts } else e)))))
 
 abbrev pub with_flag : ℕ → Bool → Entry → Entry
 with_flag place flag e =
     if place == CACHE then record e { cache = Some flag } else
     (if place == PERSISTENT then record e { persistent = Some flag } else
-    (if place == INTERACTIVE then record e { interactive = Some flag } else record e { interruptible = Some flag }))
+    (if place == INTERACTIVE then record e { interactive = Some flag } else
+    (if place == INTERRUPTIBLE then record e { interruptible = Some flag } else e)))
 
--- the entry with one more key
+abbrev pub with_mode : ℕ → LogMode → Entry → Entry
+with_mode place mode e = if place == LOGS then record e { logs = Some mode } else e
+
+-- the entry with one more key; no key of a task has another kind
 abbrev pub with_value : Kind → ℕ → List ℕ → Data → Entry → Result Entry ConfigErr
 with_value kind.Flag place at d e = do
   flag ← flag_at at d
   Ok (with_flag place flag e)
 with_value kind.Choice place at d e = do
   mode ← log_mode_at at d
-  Ok (record e { logs = Some mode })
-with_value other place at d e = do
+  Ok (with_mode place mode e)
+with_value kind.Words place at d e = do
   texts ← list_at (list_kind place) at d
   Ok (with_list place texts e)
+with_value other place at d e = Err (UnknownKey at)
 
 abbrev pub with_key : Option Key → List ℕ → Data → Entry → Result Entry ConfigErr
 with_key None at d e = Err (UnknownKey at)

@@ -1,5 +1,5 @@
 -- Values of the kinds that a turbo.json has, where one stands at a pointer (RFC 6901).
-use Rattle.std.specs.Prelude.{ℕ, if◌then◌else◌, List, Option, Some, None, option_and_then, bytes_eq, codes, Bool, Result, Ok}
+use Rattle.std.specs.Prelude.{ℕ, if◌then◌else◌, List, Option, Some, None, bytes_eq, codes, Bool, Result, Ok}
 use Rattle.serde_json.specs.Data.{Data, Members}
 use Rattle.serde_json.specs.Find.{as_bool, as_str, as_object}
 use Rattle.json_view.specs.declared.error.Shape.{Shape}
@@ -22,6 +22,9 @@ seen_as wanted kind at d = or_fault (WrongKind at wanted) (kind d)
 unfoldable pub flag_at : List ℕ → Data → Result Bool ConfigErr
 flag_at at d = seen_as shape.Flag as_bool at d
 
+unfoldable pub text_at : List ℕ → Data → Result (List ℕ) ConfigErr
+text_at at d = seen_as shape.Text as_str at d
+
 unfoldable pub texts_at : List ℕ → Data → Result (List (List ℕ)) ConfigErr
 texts_at at d = seen_as shape.Texts as_texts at d
 
@@ -34,6 +37,12 @@ list_at kind at d = do
   texts ← texts_at at d
   unless (first_glob_fault (fault_of kind) at 0 texts) (Ok texts)
 
+-- a text that is one of some words, with what the word stands for
+abbrev pub choice_at : {A : Type 0} → (List ℕ → Option A) → List ℕ → Data → Result A ConfigErr
+choice_at meaning at d = do
+  word ← text_at at d
+  or_fault (WrongKind at shape.Choice) (meaning word)
+
 -- one of the words of `outputLogs`
 abbrev pub log_mode_of : List ℕ → Option LogMode
 log_mode_of word =
@@ -44,7 +53,7 @@ log_mode_of word =
     (if bytes_eq word (codes "none") then Some Silent else None))))
 
 unfoldable pub log_mode_at : List ℕ → Data → Result LogMode ConfigErr
-log_mode_at at d = seen_as shape.Choice (λ e. option_and_then log_mode_of (as_str e)) at d
+log_mode_at at d = choice_at log_mode_of at d
 
 -- one of the words of `envMode`
 abbrev pub env_mode_of : List ℕ → Option EnvMode
@@ -53,4 +62,4 @@ env_mode_of word =
     (if bytes_eq word (codes "loose") then Some Loose else None)
 
 unfoldable pub env_mode_at : List ℕ → Data → Result EnvMode ConfigErr
-env_mode_at at d = seen_as shape.Choice (λ e. option_and_then env_mode_of (as_str e)) at d
+env_mode_at at d = choice_at env_mode_of at d

@@ -1,16 +1,15 @@
 // The tasks of a repository.
-ghost use Rattle.std.specs.Prelude.{◌≡◌, [], ℕ, List, IfOk, IfSome};
-ghost use Rattle.std.specs.Option.{option_map};
-ghost use Rattle.std.specs.BTreeSet.{contains};
-ghost use Rattle.rel_path.specs.Paths.{name_cmp};
-ghost use Rattle.turbo_config.specs.Answers.{OnlyMemory};
+ghost use Rattle.std.specs.Prelude.{◌≡◌, [], IfOk, IfSome, IsOkUnless};
+ghost use Rattle.std.specs.Option.{option_copied};
 ghost use Rattle.turbo_config.specs.Reads.{AreGlobs, DefReads};
+ghost use Rattle.turbo_config.specs.Sets.{HasThose};
 ghost use Rattle.turbo_config.specs.Setup as spec;
 
-use crate::definition::{def_by_files, def_by_scripts};
+use crate::definition::{def_by_files, def_by_scripts, root_task_def};
 use crate::entry::TaskDef;
 use crate::error::ConfigErr;
 use crate::files::{Globals, PackageConfig, RootConfig};
+use crate::names::is_root_name;
 use crate::task_names::{file_names, script_names, tails_of};
 use crate::tasks::Tasks;
 use rel_path::{Text, Texts};
@@ -31,18 +30,21 @@ pub struct Config {
 }
 
 impl Model for Config {
-    ghost use Rattle.std.specs.Prelude.{◌≡◌, List, ℕ};
-    ghost use Rattle.std.specs.BTreeSet.{contains};
-    ghost use Rattle.rel_path.specs.Paths.{name_cmp};
+    ghost use Rattle.turbo_config.specs.Sets.{HasThose};
     ghost use Rattle.turbo_config.specs.Setup.{Setup, ends_in};
 
     ghost Value = { Setup };
 
-    ghost view = { λ c. record { globals = c.globals; root = c.root; packages = c.packages.entries; scripts = c.scripts.keys } };
+    ghost view = { λ c. record {
+      globals = c.globals;
+      root = c.root;
+      packages = c.packages.entries;
+      scripts = c.scripts.keys;
+    } };
 
     ghost use Rattle.turbo_config.specs.Reads.{AreGlobs};
 
-    ghost invariant = { λ c. ((task : List ℕ) → contains name_cmp c.tails task ≡ ends_in c.root task) × AreGlobs c.globals.inputs };
+    ghost invariant = { λ c. HasThose (ends_in c.root) c.tails × AreGlobs c.globals.inputs };
 }
 
 /// The files by name. Of two with one name the last counts.
@@ -51,7 +53,7 @@ fn by_name(
     packages: Vec<(Text, PackageConfig)>,
 ) -> Result<BTreeMap<Text, PackageConfig>, ConfigErr>
     ensures value { IfOk result (λ files. files.entries ≡ spec.by_name [] packages.items) }
-    ensures memory { OnlyMemory result }
+    ensures memory { IsOkUnless result ConfigErr.OutOfMemory }
 {
     let mut files = BTreeMap::new(alloc);
     for (name, file) in packages {
@@ -62,7 +64,7 @@ fn by_name(
 
 fn each_once(alloc: Global, names: Texts) -> Result<BTreeSet<Text>, ConfigErr>
     ensures value { IfOk result (λ set. set.keys ≡ spec.each_once [] names) }
-    ensures memory { OnlyMemory result }
+    ensures memory { IsOkUnless result ConfigErr.OutOfMemory }
 {
     let mut set = BTreeSet::new(alloc);
     for name in names.into_vec() {
@@ -83,7 +85,7 @@ impl Config {
         scripts: Texts,
     ) -> Result<Config, ConfigErr>
         ensures value { IfOk result (λ config. config ≡ spec.setup_of root packages.items scripts) }
-        ensures memory { OnlyMemory result }
+        ensures memory { IsOkUnless result ConfigErr.OutOfMemory }
     {
         let packages = by_name(alloc, packages)?;
         let scripts = each_once(alloc, scripts)?;
@@ -124,13 +126,13 @@ impl Config {
     }
 
     fn root(&self) -> Option<&Tasks>
-        ensures { option_map (λ t. t.now) result ≡ self.now.root }
+        ensures { option_copied result ≡ self.now.root }
     {
         self.root.as_ref()
     }
 
     fn tails(&self) -> &BTreeSet<Text>
-        ensures { (task : List ℕ) → contains name_cmp result.now task ≡ spec.ends_in self.now.root task }
+        ensures { HasThose (spec.ends_in self.now.root) result.now }
     {
         &self.tails
     }
@@ -150,8 +152,10 @@ impl Config {
     /// The definition of a task of a package, which only a name that a task may have has (`definition_law`). Where the
     /// root has a turbo.json, the task has one where the root has the key `package#task` or `task`, or the package's own
     /// file has `task`: it begins as the first of these two of the root, or as the defaults, and each key of the
-    /// package's own file replaces that key. Without the root's file a task has the default definition where some
-    /// package has a script of its name.
+    /// package's own file replaces that key. In an array there the first text `$TURBO_EXTENDS$` stands for the array that
+    /// the task began with, and later ones for nothing; `inputs` begin as `$TURBO_DEFAULT$`, other arrays without texts.
+    /// Without the root's file a task has the default definition where some package has a script of its name.
+    /// A task of the root, whose name among packages is `//`, is what the root's key `//#task` says, and nothing else.
     #[tactic(auto, unfolding(crate::specs::Setup::task_def))]
     pub fn task_def(
         &self,
@@ -161,8 +165,11 @@ impl Config {
     ) -> Result<Option<TaskDef>, ConfigErr>
         ensures reads { IfOk result (λ def. IfSome def DefReads) }
         ensures value { IfOk result (λ def. def ≡ spec.task_def self.now «package».now task.now) }
-        ensures memory { OnlyMemory result }
+        ensures memory { IsOkUnless result ConfigErr.OutOfMemory }
     {
+        if is_root_name(package.as_str()) {
+            return root_task_def(alloc, self.root(), task);
+        }
         match self.root() {
             None => def_by_scripts(alloc, self.scripts(), task),
             Some(tasks) => def_by_files(alloc, tasks, self.packages(), package, task),
@@ -173,7 +180,7 @@ impl Config {
     /// of a key, and the keys of the packages' files; else the names of scripts that a task may have.
     pub fn names(&self, alloc: Global) -> Result<Texts, ConfigErr>
         ensures value { IfOk result (spec.AreNames self.now) }
-        ensures memory { OnlyMemory result }
+        ensures memory { IsOkUnless result ConfigErr.OutOfMemory }
     {
         let names = self.all_names(alloc)?;
         let items: Vec<Text> = names.into_iter().collect(alloc)?;
@@ -182,8 +189,8 @@ impl Config {
 
     #[tactic(auto, unfolding(crate::specs::Setup::is_name))]
     fn all_names(&self, alloc: Global) -> Result<BTreeSet<Text>, ConfigErr>
-        ensures value { IfOk result (λ names. (name : List ℕ) → contains name_cmp names name ≡ spec.is_name self.now name) }
-        ensures memory { OnlyMemory result }
+        ensures value { IfOk result (HasThose (spec.is_name self.now)) }
+        ensures memory { IsOkUnless result ConfigErr.OutOfMemory }
     {
         match self.root() {
             None => script_names(alloc, self.scripts()),

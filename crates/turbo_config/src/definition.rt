@@ -1,18 +1,17 @@
 // The definition of a task of a package.
-ghost use Rattle.std.specs.Prelude.{◌≡◌, IfOk, IfSome};
-ghost use Rattle.std.specs.Option.{option_map};
-ghost use Rattle.turbo_config.specs.Answers.{OnlyMemory};
-ghost use Rattle.turbo_config.specs.Entries.{def_of};
+ghost use Rattle.std.specs.Prelude.{◌≡◌, IfOk, IfSome, IsOkUnless};
+ghost use Rattle.std.specs.Option.{option_copied};
+ghost use Rattle.turbo_config.specs.Entries.{Lends, Defines};
 ghost use Rattle.turbo_config.specs.Reads.{EntryReads, DefReads};
-ghost use Rattle.turbo_config.specs.Setup as spec;
+ghost use Rattle.turbo_config.specs.Setup.{root_entry, own_entry, merged_entry, script_entry, file_entry, root_task_entry};
 
 use crate::entry::{Entry, TaskDef};
 use crate::error::ConfigErr;
 use crate::files::PackageConfig;
-use crate::names::{full_name, is_task_name};
+use crate::names::{ROOT_NAME, full_name, is_task_name};
 use crate::tasks::Tasks;
 use rel_path::Text;
-use std::alloc::Global;
+use std::alloc::{AllocError, Global};
 use std::collections::{BTreeMap, BTreeSet};
 
 /// The root's entry for a task of a package.
@@ -21,12 +20,11 @@ fn root_entry<'a>(
     tasks: &'a Tasks,
     package: &Text,
     task: &Text,
-) -> Result<Option<&'a Entry>, ConfigErr>
+) -> Result<Option<&'a Entry>, AllocError>
     ensures reads { IfOk result (λ entry. IfSome entry (λ e. EntryReads e.now)) }
-    ensures value { IfOk result (λ entry. option_map (λ e. e.now) entry ≡ spec.root_entry tasks.now «package».now task.now) }
-    ensures memory { OnlyMemory result }
+    ensures value { IfOk result (Lends (root_entry tasks.now «package».now task.now)) }
 {
-    let key = full_name(alloc, package, task)?;
+    let key = full_name(alloc, package.as_str(), task)?;
     match tasks.get(&key) {
         Some(entry) => Ok(Some(entry)),
         None => Ok(tasks.get(task)),
@@ -34,7 +32,8 @@ fn root_entry<'a>(
 }
 
 /// The definition by the root's entry and the package's own.
-fn merged(
+#[tactic(auto, unfolding(crate::specs::Entries::over))]
+fn merged_def(
     alloc: Global,
     below: Option<&Entry>,
     above: Option<&Entry>,
@@ -42,8 +41,9 @@ fn merged(
     requires below { IfSome below (λ e. EntryReads e.now) }
     requires above { IfSome above (λ e. EntryReads e.now) }
     ensures reads { IfOk result (λ def. IfSome def DefReads) }
-    ensures value { IfOk result (λ def. def ≡ option_map def_of (spec.merged (option_map (λ e. e.now) below.entry) (option_map (λ e. e.now) above.entry))) }
-    ensures memory { OnlyMemory result }
+    ensures value { Defines
+        (merged_entry (option_copied below.entry) (option_copied above.entry)) result }
+    ensures memory { IsOkUnless result ConfigErr.OutOfMemory }
 {
     let nothing = Entry::new();
     match (below, above) {
@@ -56,14 +56,14 @@ fn merged(
 
 /// What the package's own file says of the task.
 fn own_entry<'a>(
-    packages: &'a BTreeMap<Text, PackageConfig>,
+    files: &'a BTreeMap<Text, PackageConfig>,
     package: &Text,
     task: &Text,
 ) -> Option<&'a Entry>
     ensures reads { IfSome result (λ e. EntryReads e.now) }
-    ensures value { option_map (λ e. e.now) result ≡ spec.own_entry packages.now.entries «package».now task.now }
+    ensures value { Lends (own_entry files.now.entries «package».now task.now) result }
 {
-    match packages.get(package) {
+    match files.get(package) {
         Some(file) => file.tasks.get(task),
         None => None,
     }
@@ -76,8 +76,8 @@ pub(crate) fn def_by_scripts(
     task: &Text,
 ) -> Result<Option<TaskDef>, ConfigErr>
     ensures reads { IfOk result (λ def. IfSome def DefReads) }
-    ensures value { IfOk result (λ def. def ≡ option_map def_of (spec.script_entry scripts.now.keys task.now)) }
-    ensures memory { OnlyMemory result }
+    ensures value { Defines (script_entry scripts.now.keys task.now) result }
+    ensures memory { IsOkUnless result ConfigErr.OutOfMemory }
 {
     if is_task_name(task.as_str()) && scripts.contains(task) {
         let nothing = Entry::new();
@@ -91,17 +91,37 @@ pub(crate) fn def_by_scripts(
 pub(crate) fn def_by_files(
     alloc: Global,
     tasks: &Tasks,
-    packages: &BTreeMap<Text, PackageConfig>,
+    files: &BTreeMap<Text, PackageConfig>,
     package: &Text,
     task: &Text,
 ) -> Result<Option<TaskDef>, ConfigErr>
     ensures reads { IfOk result (λ def. IfSome def DefReads) }
-    ensures value { IfOk result (λ def. def ≡ option_map def_of (spec.file_entry tasks.now packages.now.entries «package».now task.now)) }
-    ensures memory { OnlyMemory result }
+    ensures value { Defines (file_entry tasks.now files.now.entries «package».now task.now) result }
+    ensures memory { IsOkUnless result ConfigErr.OutOfMemory }
 {
     if !is_task_name(task.as_str()) {
         return Ok(None);
     }
     let below = root_entry(alloc, tasks, package, task)?;
-    merged(alloc, below, own_entry(packages, package, task))
+    merged_def(alloc, below, own_entry(files, package, task))
+}
+
+/// The definition of a task of the root.
+pub(crate) fn root_task_def(
+    alloc: Global,
+    tasks: Option<&Tasks>,
+    task: &Text,
+) -> Result<Option<TaskDef>, ConfigErr>
+    ensures reads { IfOk result (λ def. IfSome def DefReads) }
+    ensures value { Defines (root_task_entry (option_copied tasks.entry) task.now) result }
+    ensures memory { IsOkUnless result ConfigErr.OutOfMemory }
+{
+    let Some(tasks) = tasks else {
+        return Ok(None);
+    };
+    if !is_task_name(task.as_str()) {
+        return Ok(None);
+    }
+    let key = full_name(alloc, ROOT_NAME, task)?;
+    merged_def(alloc, tasks.get(&key), None)
 }

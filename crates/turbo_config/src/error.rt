@@ -5,7 +5,7 @@ ghost use Rattle.turbo_config.specs.Faults.{as_config};
 
 use globs::GlobErr;
 use json_view::{JsonErr, Shape};
-use rel_path::{PathErr, Text};
+use rel_path::Text;
 use std::alloc::{AllocError, AllocFailed};
 use thiserror::Error;
 
@@ -56,15 +56,6 @@ impl<T: Drop> From<AllocFailed<T>> for ConfigErr {
     ghost from_gives = { λ _ e. e ≡ OutOfMemory };
 
     fn from(_error: AllocFailed<T>) -> ConfigErr {
-        ConfigErr::OutOfMemory
-    }
-}
-
-// For calls whose only error is want of memory.
-impl From<PathErr> for ConfigErr {
-    ghost from_gives = { λ _ e. e ≡ OutOfMemory };
-
-    fn from(_error: PathErr) -> ConfigErr {
         ConfigErr::OutOfMemory
     }
 }

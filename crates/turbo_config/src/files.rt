@@ -1,16 +1,19 @@
 // The two kinds of turbo.json.
-ghost use Rattle.std.specs.Prelude.{◌≡◌};
+ghost use Rattle.std.specs.Prelude.{◌≡◌, IsTrue};
 ghost use Rattle.std.specs.Option.{option_map};
 ghost use Rattle.serde_json.specs.View.{view};
 ghost use Rattle.json_view.specs.Answer.{data_of};
 ghost use Rattle.json_view.specs.Look.{value_in};
 ghost use Rattle.turbo_config.specs.Answers.{Reads, ReadsAs, ReadsInto, Passes};
 ghost use Rattle.turbo_config.specs.Keys.{top_keys};
-ghost use Rattle.turbo_config.specs.Files.{value_of, pipeline_fault, extends_fault, no_globals, with_global, with_top_member, globals_in, root_in, package_in, root_of, package_of, is_root_alone};
+ghost use Rattle.turbo_config.specs.Files.{value_of, pipeline_fault, extends_fault, no_globals, is_top, with_global, with_top_member, globals_in, root_in, package_in, root_of, package_of, is_root_alone};
 
 use crate::error::ConfigErr;
 use crate::glob_fault::ListKind;
-use crate::keys::{ENV_MODE, GLOBAL_ENV, GLOBAL_INPUTS, GLOBAL_PASS, top_keys};
+use crate::keys::{
+    ENV_MODE, EXTENDS, GLOBAL_ENV, GLOBAL_INPUTS, GLOBAL_PASS, PIPELINE, TASKS, top_keys,
+};
+use crate::names::ROOT_NAME;
 use crate::tasks::{FileKind, Tasks, read_tasks};
 use crate::values::{env_mode_at, list_at, members_at};
 use env_select::EnvMode;
@@ -102,7 +105,7 @@ fn check_pipeline(json: &View) -> Result<(), ConfigErr>
 fn is_root_alone(texts: &[Text]) -> bool
     ensures { result ≡ is_root_alone texts.now }
 {
-    texts.len() == 1 && texts[0].as_str() == "//"
+    texts.len() == 1 && texts[0].as_str() == ROOT_NAME
 }
 
 #[tactic(auto, unfolding(crate::specs::Files::extends_fault))]
@@ -121,7 +124,7 @@ fn check_extends(alloc: Global, json: &View) -> Result<(), ConfigErr>
     }
 }
 
-/// Sets the global key of that place.
+/// Sets the global key of that place; the other keys at the top are read elsewhere.
 fn read_global(
     alloc: Global,
     place: u8,
@@ -129,6 +132,7 @@ fn read_global(
     value: &Value,
     globals: &mut Globals,
 ) -> Result<(), ConfigErr>
+    requires { IsTrue (is_top place) }
     ensures { ReadsInto (with_global place at.now (view value.now) globals.old) result globals.new }
 {
     match place {
@@ -136,7 +140,8 @@ fn read_global(
         GLOBAL_INPUTS => globals.inputs = list_at(alloc, ListKind::Globs, at, value)?,
         GLOBAL_ENV => globals.env = list_at(alloc, ListKind::Texts, at, value)?,
         GLOBAL_PASS => globals.pass = list_at(alloc, ListKind::Texts, at, value)?,
-        _ => {}
+        TASKS | PIPELINE | EXTENDS => {}
+        _ => unreachable!(),
     }
     Ok(())
 }

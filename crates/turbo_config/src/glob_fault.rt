@@ -1,8 +1,8 @@
 // The first entry of a list that is no glob.
-ghost use Rattle.std.specs.Prelude.{◌≡◌, ◌+◌, ◌<◌, ◌^◌, length, MatchResult, IfOk};
+ghost use Rattle.std.specs.Prelude.{◌≡◌, ◌+◌, ◌<◌, ◌^◌, length, MatchResult, IfOk, IsOkUnless};
 ghost use Rattle.std.specs.Str.{chars};
 ghost use Rattle.glob_syntax.specs.Reading.{fault_at};
-ghost use Rattle.turbo_config.specs.Answers.{OnlyMemory, Passes};
+ghost use Rattle.turbo_config.specs.Answers.{Passes};
 ghost use Rattle.turbo_config.specs.Globs.{input_fault, glob_fault, fault_of, item_at, first_glob_fault, Finds};
 
 use crate::error::ConfigErr;
@@ -10,6 +10,24 @@ use glob_syntax::{GlobErr, read_alternatives};
 use json_view::pointer_to;
 use rel_path::{Text, split_first_char};
 use std::alloc::Global;
+
+// Begins an entry that takes files away.
+const NOT: char = '!';
+
+const NOT_CHARS: u64 = 1;
+
+/// Stands for the default inputs.
+pub(crate) const DEFAULT_INPUTS: &str = "$TURBO_DEFAULT$";
+
+// Begins a glob that is relative to the root.
+const ROOT: &str = "$TURBO_ROOT$/";
+
+const ROOT_CHARS: u64 = 13;
+
+// Begins such a glob whose files are taken away.
+const NOT_ROOT: &str = "!$TURBO_ROOT$/";
+
+const NOT_ROOT_CHARS: u64 = 14;
 
 /// What the entries of a list are.
 #[derive(Clone, Copy, Debug)]
@@ -40,7 +58,7 @@ fn glob_fault(alloc: Global, text: &str) -> Result<Option<GlobErr>, ConfigErr>
 {
     let _len = text.len();
     match split_first_char(text) {
-        Some((c, behind)) if c == '!' => fault_from(alloc, 1, behind),
+        Some((c, behind)) if c == NOT => fault_from(alloc, NOT_CHARS, behind),
         _ => fault_from(alloc, 0, text),
     }
 }
@@ -50,14 +68,14 @@ fn input_fault(alloc: Global, text: &str) -> Result<Option<GlobErr>, ConfigErr>
     ensures { Finds (input_fault text.now) result }
 {
     let _len = text.len();
-    if text == "$TURBO_DEFAULT$" {
+    if text == DEFAULT_INPUTS {
         return Ok(None);
     }
-    if let Some(glob) = text.strip_prefix("$TURBO_ROOT$/") {
-        return fault_from(alloc, 13, glob);
+    if let Some(glob) = text.strip_prefix(ROOT) {
+        return fault_from(alloc, ROOT_CHARS, glob);
     }
-    if let Some(glob) = text.strip_prefix("!$TURBO_ROOT$/") {
-        return fault_from(alloc, 14, glob);
+    if let Some(glob) = text.strip_prefix(NOT_ROOT) {
+        return fault_from(alloc, NOT_ROOT_CHARS, glob);
     }
     glob_fault(alloc, text)
 }
@@ -74,7 +92,7 @@ fn fault_of(alloc: Global, kind: ListKind, text: &str) -> Result<Option<GlobErr>
 
 fn item_at(alloc: Global, at: &str, index: usize) -> Result<Text, ConfigErr>
     ensures value { IfOk result (λ pointer. pointer ≡ item_at at.now index) }
-    ensures memory { OnlyMemory result }
+    ensures memory { IsOkUnless result ConfigErr.OutOfMemory }
 {
     let number = index.to_string(alloc)?;
     match pointer_to(alloc, at, number.as_str()) {

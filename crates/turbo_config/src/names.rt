@@ -1,24 +1,37 @@
 // Names of tasks.
 ghost use Rattle.std.specs.Prelude.{◌≡◌, IfOk};
 ghost use Rattle.std.specs.List.{list_any};
-ghost use Rattle.turbo_config.specs.Names.{has_hash, behind_hash, task_of, is_reserved, is_task_name, full_name, shown};
-ghost use Rattle.turbo_config.specs.Answers.{OnlyMemory};
+ghost use Rattle.turbo_config.specs.Names.{has_hash, behind_hash, task_of, is_reserved, is_root_name, is_task_name, full_name, text_behind};
 
-use crate::error::ConfigErr;
 use rel_path::Text;
-use std::alloc::Global;
+use std::alloc::{AllocError, Global};
+
+/// The root among packages, none of which has this name.
+pub(crate) const ROOT_NAME: &str = "//";
+
+// Parts a package's name from a task's.
+const HASH: u8 = b'#';
+
+// Begins the names that turbo.json itself gives a meaning.
+const DOLLAR: u8 = b'$';
+
+// Begins what means a package's dependencies.
+const CARET: u8 = b'^';
+
+// The first character that is none of control.
+const SPACE: u8 = b' ';
 
 pub(crate) fn has_hash(text: &str) -> bool
     ensures { result ≡ has_hash text.now }
 {
-    text.as_bytes().iter().any(|b| *b == b'#')
+    text.as_bytes().iter().any(|b| *b == HASH)
 }
 
 /// The part behind the first `#`, if there is one.
 pub(crate) fn behind_hash(key: &str) -> Option<&str>
-    ensures { shown result ≡ behind_hash key.now }
+    ensures { text_behind result ≡ behind_hash key.now }
 {
-    match key.split_once('#') {
+    match key.split_once(HASH as char) {
         Some((_, task)) => Some(task),
         None => None,
     }
@@ -34,12 +47,18 @@ pub(crate) fn task_of(key: &str) -> &str
     }
 }
 
+pub(crate) fn is_root_name(package: &str) -> bool
+    ensures { result ≡ is_root_name «package».now }
+{
+    package == ROOT_NAME
+}
+
 fn has_reserved(name: &str) -> bool
     ensures { result ≡ list_any is_reserved name.now }
 {
     name.as_bytes()
         .iter()
-        .any(|b| *b == b'#' || *b == b'$' || *b < b' ')
+        .any(|b| *b == HASH || *b == DOLLAR || *b < SPACE)
 }
 
 /// Whether a task may have the name: it is not empty, holds no `#`, no `$` and no character below U+0020, and does not
@@ -50,17 +69,16 @@ pub(crate) fn is_task_name(name: &str) -> bool
 {
     match name.as_bytes().first() {
         None => false,
-        Some(b) => *b != b'^' && !has_reserved(name),
+        Some(b) => *b != CARET && !has_reserved(name),
     }
 }
 
 /// `package#task`.
-pub(crate) fn full_name(alloc: Global, package: &Text, task: &Text) -> Result<Text, ConfigErr>
-    ensures value { IfOk result (λ name. name ≡ full_name «package».now task.now) }
-    ensures memory { OnlyMemory result }
+pub(crate) fn full_name(alloc: Global, package: &str, task: &Text) -> Result<Text, AllocError>
+    ensures { IfOk result (λ name. name ≡ full_name «package».now task.now) }
 {
-    let mut name = String::from_str(alloc, package.as_str())?;
-    name.push('#')?;
+    let mut name = String::from_str(alloc, package)?;
+    name.push(HASH as char)?;
     name.push_str(task.as_str())?;
     Ok(Text::from_string(name))
 }

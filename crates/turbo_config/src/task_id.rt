@@ -1,6 +1,5 @@
 // Tasks by package and name.
-ghost use Rattle.std.specs.Prelude.{◌≡◌, ◌∷◌, ◌++◌, [], OnOk, OnErr};
-ghost use Rattle.turbo_config.specs.Answers.{OnlyMemory};
+ghost use Rattle.std.specs.Prelude.{◌≡◌, ◌∷◌, ◌++◌, [], OnOk, OnErr, IsOkUnless};
 
 use crate::error::ConfigErr;
 use rel_path::Text;
@@ -43,7 +42,7 @@ impl TaskIds {
     pub fn push(&mut self, item: TaskId) -> Result<(), ConfigErr>
         ensures pushed { OnOk result (self.new ≡ self.old ++ item ∷ []) }
         ensures kept { OnErr result (self.new ≡ self.old) }
-        ensures memory { OnlyMemory result }
+        ensures memory { IsOkUnless result ConfigErr.OutOfMemory }
     {
         self.items.push(item)?;
         Ok(())

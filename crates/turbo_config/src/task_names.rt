@@ -1,12 +1,8 @@
 // The names of tasks.
-ghost use Rattle.std.specs.Prelude.{◌≡◌, ◌&&◌, ◌∷◌, [], ℕ, List, Some, not, IfOk, OnOk, option_to_list};
+ghost use Rattle.std.specs.Prelude.{◌∷◌, [], Some, IfOk, OnOk, IsOkUnless};
 ghost use Rattle.std.specs.Map.{keys_of};
-ghost use Rattle.std.specs.BTreeSet.{contains};
-ghost use Rattle.rel_path.specs.Paths.{name_cmp};
-ghost use Rattle.turbo_config.specs.Answers.{OnlyMemory};
-ghost use Rattle.turbo_config.specs.Names.{has_hash, behind_hash, is_task_name};
-ghost use Rattle.turbo_config.specs.Sets.{Gains};
-ghost use Rattle.turbo_config.specs.Setup as spec;
+ghost use Rattle.turbo_config.specs.Sets.{HasThose, Gains};
+ghost use Rattle.turbo_config.specs.Setup.{ends_in, is_tail, is_plain_among, is_plain_own, is_script_task, is_file_name};
 
 use crate::error::ConfigErr;
 use crate::files::PackageConfig;
@@ -18,8 +14,8 @@ use std::collections::{BTreeMap, BTreeSet};
 
 /// Adds the task of a key `package#task`.
 fn add_tail(alloc: Global, tails: &mut BTreeSet<Text>, key: &str) -> Result<(), ConfigErr>
-    ensures added { OnOk result (Gains (λ name. spec.is_among (option_to_list (behind_hash key.now)) name) tails.old tails.new) }
-    ensures memory { OnlyMemory result }
+    ensures added { OnOk result (Gains (is_tail key.now) tails.old tails.new) }
+    ensures memory { IsOkUnless result ConfigErr.OutOfMemory }
 {
     let Some(task) = behind_hash(key) else {
         return Ok(());
@@ -31,8 +27,8 @@ fn add_tail(alloc: Global, tails: &mut BTreeSet<Text>, key: &str) -> Result<(), 
 /// The tasks of the keys `package#task`.
 #[tactic(auto, unfolding(crate::specs::Setup::ends_in))]
 pub(crate) fn tails_of(alloc: Global, tasks: &Tasks) -> Result<BTreeSet<Text>, ConfigErr>
-    ensures value { IfOk result (λ tails. (task : List ℕ) → contains name_cmp tails task ≡ spec.ends_in (Some tasks.now) task) }
-    ensures memory { OnlyMemory result }
+    ensures value { IfOk result (HasThose (ends_in (Some tasks.now))) }
+    ensures memory { IsOkUnless result ConfigErr.OutOfMemory }
 {
     let mut tails = BTreeSet::new(alloc);
     for key in tasks.entries().keys() {
@@ -43,8 +39,8 @@ pub(crate) fn tails_of(alloc: Global, tasks: &Tasks) -> Result<BTreeSet<Text>, C
 
 /// Adds a name without `#`.
 fn add_name(names: &mut BTreeSet<Text>, name: &Text) -> Result<(), ConfigErr>
-    ensures added { OnOk result (Gains (λ other. not (has_hash other) && spec.is_among (name.now ∷ []) other) names.old names.new) }
-    ensures memory { OnlyMemory result }
+    ensures added { OnOk result (Gains (is_plain_among (name.now ∷ [])) names.old names.new) }
+    ensures memory { IsOkUnless result ConfigErr.OutOfMemory }
 {
     if has_hash(name.as_str()) {
         return Ok(());
@@ -55,8 +51,8 @@ fn add_name(names: &mut BTreeSet<Text>, name: &Text) -> Result<(), ConfigErr>
 
 /// Adds the keys without `#`.
 fn add_keys(names: &mut BTreeSet<Text>, tasks: &Tasks) -> Result<(), ConfigErr>
-    ensures added { OnOk result (Gains (λ name. not (has_hash name) && spec.is_among (keys_of tasks.now) name) names.old names.new) }
-    ensures memory { OnlyMemory result }
+    ensures added { OnOk result (Gains (is_plain_among (keys_of tasks.now)) names.old names.new) }
+    ensures memory { IsOkUnless result ConfigErr.OutOfMemory }
 {
     for key in tasks.entries().keys() {
         add_name(names, key)?;
@@ -66,8 +62,8 @@ fn add_keys(names: &mut BTreeSet<Text>, tasks: &Tasks) -> Result<(), ConfigErr>
 
 /// Adds those of a set.
 fn add_set(names: &mut BTreeSet<Text>, more: &BTreeSet<Text>) -> Result<(), ConfigErr>
-    ensures added { OnOk result (Gains (λ name. not (has_hash name) && spec.is_among more.now.keys name) names.old names.new) }
-    ensures memory { OnlyMemory result }
+    ensures added { OnOk result (Gains (is_plain_among more.now.keys) names.old names.new) }
+    ensures memory { IsOkUnless result ConfigErr.OutOfMemory }
 {
     for name in more {
         add_name(names, name)?;
@@ -80,8 +76,8 @@ fn add_own(
     names: &mut BTreeSet<Text>,
     packages: &BTreeMap<Text, PackageConfig>,
 ) -> Result<(), ConfigErr>
-    ensures added { OnOk result (Gains (λ name. not (has_hash name) && spec.is_own packages.now.entries name) names.old names.new) }
-    ensures memory { OnlyMemory result }
+    ensures added { OnOk result (Gains (is_plain_own packages.now.entries) names.old names.new) }
+    ensures memory { IsOkUnless result ConfigErr.OutOfMemory }
 {
     for file in packages.values() {
         add_keys(names, &file.tasks)?;
@@ -91,8 +87,8 @@ fn add_own(
 
 /// Adds a name that a task may have.
 fn add_script(names: &mut BTreeSet<Text>, script: &Text) -> Result<(), ConfigErr>
-    ensures added { OnOk result (Gains (λ name. is_task_name name && spec.is_among (script.now ∷ []) name) names.old names.new) }
-    ensures memory { OnlyMemory result }
+    ensures added { OnOk result (Gains (is_script_task (script.now ∷ [])) names.old names.new) }
+    ensures memory { IsOkUnless result ConfigErr.OutOfMemory }
 {
     if !is_task_name(script.as_str()) {
         return Ok(());
@@ -106,8 +102,8 @@ pub(crate) fn script_names(
     alloc: Global,
     scripts: &BTreeSet<Text>,
 ) -> Result<BTreeSet<Text>, ConfigErr>
-    ensures value { IfOk result (λ names. (name : List ℕ) → contains name_cmp names name ≡ spec.is_script_task scripts.now.keys name) }
-    ensures memory { OnlyMemory result }
+    ensures value { IfOk result (HasThose (is_script_task scripts.now.keys)) }
+    ensures memory { IsOkUnless result ConfigErr.OutOfMemory }
 {
     let mut names = BTreeSet::new(alloc);
     for script in scripts {
@@ -123,9 +119,9 @@ pub(crate) fn file_names(
     tails: &BTreeSet<Text>,
     packages: &BTreeMap<Text, PackageConfig>,
 ) -> Result<BTreeSet<Text>, ConfigErr>
-    requires { (task : List ℕ) → contains name_cmp tails.now task ≡ spec.ends_in (Some tasks.now) task }
-    ensures value { IfOk result (λ names. (name : List ℕ) → contains name_cmp names name ≡ spec.is_file_name tasks.now packages.now.entries name) }
-    ensures memory { OnlyMemory result }
+    requires { HasThose (ends_in (Some tasks.now)) tails.now }
+    ensures value { IfOk result (HasThose (is_file_name tasks.now packages.now.entries)) }
+    ensures memory { IsOkUnless result ConfigErr.OutOfMemory }
 {
     let mut names = BTreeSet::new(alloc);
     add_keys(&mut names, tasks)?;

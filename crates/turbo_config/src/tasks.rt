@@ -1,19 +1,19 @@
 // The tasks of a file.
-ghost use Rattle.std.specs.Prelude.{◌≡◌, [], IfOk, IfSome, OnOk};
+ghost use Rattle.std.specs.Prelude.{◌≡◌, [], IfOk, IfSome, IsTrue, OnOk, IsOkUnless};
 ghost use Rattle.std.specs.Option.{option_map};
 ghost use Rattle.std.specs.BTreeMap.{insert_entry};
 ghost use Rattle.serde_json.specs.View.{view, members_view};
 ghost use Rattle.rel_path.specs.Paths.{name_cmp};
-ghost use Rattle.turbo_config.specs.Answers.{Reads, ReadsInto, Passes, OnlyMemory};
-ghost use Rattle.turbo_config.specs.Entries.{at_name};
+ghost use Rattle.turbo_config.specs.Answers.{Reads, ReadsInto, Passes};
+ghost use Rattle.turbo_config.specs.Entries.{at_name, Lends};
 ghost use Rattle.turbo_config.specs.Keys.{task_keys};
 ghost use Rattle.turbo_config.specs.Reads.{EntryReads};
-ghost use Rattle.turbo_config.specs.Tasks.{is_foreign, key_fault, list_kind, with_value, with_member, entry_at, task_in, tasks_in, tasks_of};
+ghost use Rattle.turbo_config.specs.Tasks.{is_list, is_place, is_foreign, key_fault, list_kind, with_value, with_member, entry_at, task_in, tasks_in, tasks_of};
 
 use crate::entry::Entry;
 use crate::error::ConfigErr;
 use crate::glob_fault::ListKind;
-use crate::keys::{INPUTS, OUTPUTS, task_keys};
+use crate::keys::{DEPENDS_ON, ENV, INPUTS, OUTPUTS, PASS, WITH, task_keys};
 use crate::names::{has_hash, is_task_name, task_of};
 use crate::values::{flag_at, list_at, log_mode_at, members_at};
 use json_view::pointer_to;
@@ -64,7 +64,7 @@ impl Tasks {
     fn insert(&mut self, key: Text, entry: Entry) -> Result<(), ConfigErr>
         requires { EntryReads entry }
         ensures value { OnOk result (self.new ≡ insert_entry name_cmp self.old key entry) }
-        ensures memory { OnlyMemory result }
+        ensures memory { IsOkUnless result ConfigErr.OutOfMemory }
     {
         self.entries.insert(key, entry)?;
         Ok(())
@@ -77,7 +77,7 @@ impl Tasks {
     }
 
     pub(crate) fn get(&self, key: &Text) -> Option<&Entry>
-        ensures value { option_map (λ e. e.now) result ≡ at_name self.now key.now }
+        ensures value { Lends (at_name self.now key.now) result }
         ensures reads { IfSome result (λ e. EntryReads e.now) }
     {
         self.entries.get(key)
@@ -85,12 +85,14 @@ impl Tasks {
 }
 
 fn list_kind(place: u8) -> ListKind
+    requires { IsTrue (is_list place) }
     ensures { result ≡ list_kind place }
 {
     match place {
         INPUTS => ListKind::Inputs,
         OUTPUTS => ListKind::Globs,
-        _ => ListKind::Texts,
+        DEPENDS_ON | ENV | PASS | WITH => ListKind::Texts,
+        _ => unreachable!(),
     }
 }
 
@@ -102,15 +104,18 @@ fn read_value(
     value: &Value,
     entry: &mut Entry,
 ) -> Result<(), ConfigErr>
-    ensures { ReadsInto (with_value row.kind row.place at.now (view value.now) entry.old) result entry.new }
+    requires { IsTrue (is_place row.kind row.place) }
+    ensures { ReadsInto
+        (with_value row.kind row.place at.now (view value.now) entry.old) result entry.new }
 {
     match row.kind {
         Kind::Flag => entry.set_flag(row.place, flag_at(alloc, at, value)?),
-        Kind::Choice => entry.logs = Some(log_mode_at(alloc, at, value)?),
-        _ => {
+        Kind::Choice => entry.set_mode(row.place, log_mode_at(alloc, at, value)?),
+        Kind::Words => {
             let texts = list_at(alloc, list_kind(row.place), at, value)?;
             entry.set_list(row.place, texts);
         }
+        Kind::Word | Kind::Number | Kind::Top => unreachable!(),
     }
     Ok(())
 }
@@ -126,7 +131,8 @@ fn read_member(
     entry: &mut Entry,
 ) -> Result<(), ConfigErr>
     requires { keys.now ≡ task_keys }
-    ensures { ReadsInto (with_member task_at.now name.now (view value.now) entry.old) result entry.new }
+    ensures { ReadsInto
+        (with_member task_at.now name.now (view value.now) entry.old) result entry.new }
 {
     let pointer = pointer_to(alloc, task_at, name)?;
     match keys.find(name) {

@@ -1,28 +1,24 @@
 // Values of the kinds that a turbo.json has.
-ghost use Rattle.std.specs.Prelude.{◌≡◌, ◌⊎◌, IfOk, option_and_then};
+ghost use Rattle.std.specs.Prelude.{◌≡◌, ◌⊎◌};
 ghost use Rattle.std.specs.Option.{option_map};
-ghost use Rattle.serde_json.specs.View.{view, items_view, members_view};
-ghost use Rattle.json_view.specs.Look.{texts_of};
-ghost use Rattle.turbo_config.specs.Answers.{Reads, ReadsAs, OnlyMemory};
-ghost use Rattle.turbo_config.specs.Values.{flag_at, texts_at, list_at, members_at, log_mode_of, log_mode_at, env_mode_of, env_mode_at};
+ghost use Rattle.serde_json.specs.View.{view, members_view};
+ghost use Rattle.turbo_config.specs.Answers.{Reads, ReadsAs};
+ghost use Rattle.turbo_config.specs.Values.{flag_at, text_at, texts_at, list_at, members_at, log_mode_of, log_mode_at, env_mode_of, env_mode_at};
 
 use crate::entry::LogMode;
 use crate::error::ConfigErr;
 use crate::glob_fault::{ListKind, check_entries};
 use env_select::EnvMode;
-use json_view::Shape;
-use rel_path::{Text, Texts};
+use json_view::{Shape, texts_of, wrong_kind};
+use rel_path::Texts;
 use serde_json::{Map, Value};
 use std::alloc::Global;
 
 /// That something else than the shape stands at the pointer.
-fn wrong(alloc: Global, at: &str, wanted: Shape) -> ConfigErr
+fn wrong_value(alloc: Global, at: &str, wanted: Shape) -> ConfigErr
     ensures { (result ≡ ConfigErr.OutOfMemory) ⊎ (result ≡ ConfigErr.WrongKind at.now wanted) }
 {
-    match Text::read(alloc, at) {
-        Ok(pointer) => ConfigErr::WrongKind { pointer, wanted },
-        Err(_) => ConfigErr::OutOfMemory,
-    }
+    ConfigErr::from(wrong_kind(alloc, at, wanted))
 }
 
 /// A flag.
@@ -32,7 +28,18 @@ pub(crate) fn flag_at(alloc: Global, at: &str, value: &Value) -> Result<bool, Co
 {
     match value.as_bool() {
         Some(flag) => Ok(flag),
-        None => Err(wrong(alloc, at, Shape::Flag)),
+        None => Err(wrong_value(alloc, at, Shape::Flag)),
+    }
+}
+
+/// A text.
+#[tactic(auto, unfolding(crate::specs::Values::text_at))]
+fn text_at<'a>(alloc: Global, at: &str, value: &'a Value) -> Result<&'a str, ConfigErr>
+    ensures { ReadsAs (λ text. text.now) (text_at at.now (view value.now)) result }
+{
+    match value.as_str() {
+        Some(text) => Ok(text),
+        None => Err(wrong_value(alloc, at, Shape::Text)),
     }
 }
 
@@ -43,27 +50,13 @@ pub(crate) fn members_at<'a>(
     at: &str,
     value: &'a Value,
 ) -> Result<&'a Map<String, Value>, ConfigErr>
-    ensures { ReadsAs (λ members. members_view members.now.entries) (members_at at.now (view value.now)) result }
+    ensures { ReadsAs (λ members. members_view members.now.entries)
+        (members_at at.now (view value.now)) result }
 {
     match value.as_object() {
         Some(members) => Ok(members),
-        None => Err(wrong(alloc, at, Shape::Object)),
+        None => Err(wrong_value(alloc, at, Shape::Object)),
     }
-}
-
-/// The texts of a list of strings; None where something else is among them.
-fn texts_of(alloc: Global, items: &[Value]) -> Result<Option<Texts>, ConfigErr>
-    ensures texts { IfOk result (λ texts. texts ≡ texts_of (items_view items.now)) }
-    ensures memory { OnlyMemory result }
-{
-    let mut texts = Texts::new(alloc);
-    for value in items {
-        match value.as_str() {
-            None => return Ok(None),
-            Some(text) => texts.push(Text::read(alloc, text)?)?,
-        }
-    }
-    Ok(Some(texts))
 }
 
 /// The strings of an array.
@@ -72,9 +65,9 @@ fn texts_at(alloc: Global, at: &str, value: &Value) -> Result<Texts, ConfigErr>
     ensures { Reads (texts_at at.now (view value.now)) result }
 {
     match value.as_array() {
-        None => Err(wrong(alloc, at, Shape::Texts)),
+        None => Err(wrong_value(alloc, at, Shape::Texts)),
         Some(items) => match texts_of(alloc, items.as_slice())? {
-            None => Err(wrong(alloc, at, Shape::Texts)),
+            None => Err(wrong_value(alloc, at, Shape::Texts)),
             Some(texts) => Ok(texts),
         },
     }
@@ -113,9 +106,9 @@ fn log_mode_of(word: &str) -> Option<LogMode>
 pub(crate) fn log_mode_at(alloc: Global, at: &str, value: &Value) -> Result<LogMode, ConfigErr>
     ensures { Reads (log_mode_at at.now (view value.now)) result }
 {
-    match value.as_str().and_then(log_mode_of) {
+    match log_mode_of(text_at(alloc, at, value)?) {
         Some(mode) => Ok(mode),
-        None => Err(wrong(alloc, at, Shape::Choice)),
+        None => Err(wrong_value(alloc, at, Shape::Choice)),
     }
 }
 
@@ -134,8 +127,8 @@ fn env_mode_of(word: &str) -> Option<EnvMode>
 pub(crate) fn env_mode_at(alloc: Global, at: &str, value: &Value) -> Result<EnvMode, ConfigErr>
     ensures { Reads (env_mode_at at.now (view value.now)) result }
 {
-    match value.as_str().and_then(env_mode_of) {
+    match env_mode_of(text_at(alloc, at, value)?) {
         Some(mode) => Ok(mode),
-        None => Err(wrong(alloc, at, Shape::Choice)),
+        None => Err(wrong_value(alloc, at, Shape::Choice)),
     }
 }

@@ -11,6 +11,7 @@ ghost use Rattle.manifest.specs.Manifest.{AreAscending};
 use anyhow::{Result, bail};
 use manifest::Manifest;
 use os_edge::OsWorld;
+use rel_path::limits::MAX_FILE_BYTES;
 use rel_path::{Paths, RelPath};
 use std::alloc::Global;
 use std::env;
@@ -28,9 +29,6 @@ struct Counts {
     finding: u128,
 }
 
-// The most bytes of a root manifest.
-const MOST_BYTES: u64 = 16 * 1024 * 1024;
-
 fn root_manifest<T: Tree>(alloc: Global, tree: &mut T) -> Result<Manifest>
     requires { (path : Path) → (T.state tree.old).held path ≡ false }
     ensures looks { Looks (T.state tree.old) (T.state tree.new) }
@@ -40,7 +38,7 @@ fn root_manifest<T: Tree>(alloc: Global, tree: &mut T) -> Result<Manifest>
         Ok(path) => path,
         Err(_) => bail!("out of memory"),
     };
-    match tree.read(alloc, &path, MOST_BYTES) {
+    match tree.read(alloc, &path, MAX_FILE_BYTES) {
         Ok(Found::Here(bytes)) => match Manifest::read(alloc, bytes.as_slice(), true) {
             Ok(manifest) => Ok(manifest),
             Err(_) => bail!("a faulty root manifest"),

@@ -5,6 +5,10 @@ use Rattle.std.proofs.Math.Nat.{mul-le-mul_right}
 use Rattle.std.specs.List.{list_all}
 use Rattle.wildcards.specs.Spells.{AfterSome, AfterOne, Spells}
 
+-- the test of an item and an element, as a relation
+abbrev pub Passes : {I E : Type 0} → (I → E → Bool) → I → E → Type 0
+Passes takes i e = IsTrue (takes i e)
+
 module _ {I E : Type 0} (is_run : I → Bool) (Takes : I → E → Type 0) where
   -- the items take the elements from some place on
   abbrev pub Somewhere : List I → List E → Type 0

@@ -13,7 +13,8 @@ use Rattle.manifest.specs.Manifest.{AreAscending}
 use Rattle.workspaces.specs.declared.member.Package.{Package}
 use Rattle.workspaces.specs.declared.error.SpaceErr.{SpaceErr}
 use Rattle.workspaces.specs.Lists.{Has}
-use Rattle.workspaces.specs.Space.{manifest_in, file_limit, package_at, packages_at, and_more, Discovers}
+use Rattle.workspaces.specs.Space.{manifest_in, package_at, packages_at, and_more, Discovers}
+use Rattle.rel_path.specs.Limits.{file_limit}
 use Rattle.workspaces.specs.Reading.{IsReadIn, AreReadIn, with_package, and_then}
 use Rattle.workspaces.proofs.Order.{all_from, all_has}
 

@@ -5,6 +5,7 @@ use Rattle.std.specs.List.{AllByRecursion, filter_map}
 use Rattle.std.specs.List.Sorted.{IsStrictlySortedBy}
 use Rattle.rel_path.specs.Paths.{Path, name_cmp, path_cmp, strip}
 use Rattle.rel_path.specs.Files.{FileMap}
+use Rattle.rel_path.specs.Limits.{file_limit}
 use Rattle.tree_dev.specs.declared.tree.Found.{Found}
 use Rattle.tree_dev.specs.declared.tree.Found.TheVariants.{Absent, TooLong, Here}
 use Rattle.tree_dev.specs.Tree.{within}
@@ -47,10 +48,6 @@ unfoldable pub folders_in : List (List ℕ) → List Path → List Path
 folders_in globs walk = ascending path_cmp (filter (is_taken globs) (filter_map folder_of walk))
 
 -- ---- their manifests
-
--- the most bytes of a file that is read
-abbrev pub file_limit : ℕ
-file_limit = 16777216
 
 abbrev pub package_of : Path → Manifest → Package
 package_of folder manifest = record { name = unwrap_or manifest.name []; folder = folder; manifest = manifest }

@@ -4,7 +4,7 @@ ghost use Rattle.workspaces.specs.declared.error.SpaceErr.TheVariants.{Failed, O
 
 use globs::GlobErr;
 use manifest::ManifestErr;
-use rel_path::{PathErr, RelPath, Text};
+use rel_path::{RelPath, Text};
 use std::alloc::{AllocError, AllocFailed};
 use thiserror::Error;
 
@@ -61,15 +61,6 @@ impl<T: Drop> From<AllocFailed<T>> for SpaceErr {
     ghost from_gives = { λ _ e. e ≡ OutOfMemory };
 
     fn from(_error: AllocFailed<T>) -> SpaceErr {
-        SpaceErr::OutOfMemory
-    }
-}
-
-// For calls whose only error is want of memory.
-impl From<PathErr> for SpaceErr {
-    ghost from_gives = { λ _ e. e ≡ OutOfMemory };
-
-    fn from(_error: PathErr) -> SpaceErr {
         SpaceErr::OutOfMemory
     }
 }

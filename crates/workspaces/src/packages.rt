@@ -1,5 +1,5 @@
 // The packages of a workspace, with what is known of them.
-ghost use Rattle.std.specs.Prelude.{◌≡◌, ◌<◌, ◌^◌, ℕ, length, map, None, Some, IfOk, IfErr};
+ghost use Rattle.std.specs.Prelude.{◌≡◌, ◌<◌, ◌^◌, ℕ, length, map, None, Some, IfOk, IfErr, MatchOption};
 ghost use Rattle.std.specs.List.{HoldsAt};
 ghost use Rattle.manifest.specs.Manifest.{AreAscending};
 ghost use Rattle.workspaces.specs.Edges.{edge_from, needs_of};
@@ -7,9 +7,10 @@ ghost use Rattle.workspaces.specs.Lists.{places};
 ghost use Rattle.workspaces.specs.Reach.{IsReached, AreBelow};
 ghost use Rattle.workspaces.specs.Space.{Space, IsProper};
 ghost use Rattle.workspaces.specs.Members.{edges_of, users_of, leads, leads_back, needs_by, IsFit};
-ghost use Rattle.workspaces.specs.Steps.{OnlyMemory};
+ghost use Rattle.workspaces.specs.Steps.{OnlyMemory, IsNoName, IsNamedAt};
 
 use crate::edge_lists::edge_places;
+use crate::lookup::package_by;
 use crate::needs::needs_of;
 use crate::reach::reached;
 use crate::users::users_of;
@@ -112,6 +113,17 @@ impl Packages {
         ensures { HoldsAt (λ member. result.now ≡ member.name) self.now.packages p }
     {
         &self.packages[p as usize].name
+    }
+
+    /// The number of the package of that name. It takes no memory.
+    pub fn number_of(&self, name: &Text) -> Option<u32>
+        ensures { MatchOption result
+            (IsNoName self.now.packages name.now) (IsNamedAt self.now.packages name.now) }
+    {
+        match package_by(self.packages.as_slice(), name) {
+            Some(place) => Some(place as u32),
+            None => None,
+        }
     }
 
     /// The folder of the package, which is not the root.

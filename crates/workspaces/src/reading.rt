@@ -4,18 +4,17 @@ ghost use Rattle.std.specs.List.Sorted.{IsStrictlySortedBy};
 ghost use Rattle.rel_path.specs.Paths.{Path, path_cmp};
 ghost use Rattle.tree_dev.specs.Tree.{Looks, within};
 ghost use Rattle.manifest.specs.Manifest.{AreAscending};
-ghost use Rattle.workspaces.specs.Space.{manifest_in, file_limit, package_of, package_at, packages_at, Discovers};
+ghost use Rattle.workspaces.specs.Space.{manifest_in, package_of, package_at, packages_at, Discovers};
+ghost use Rattle.rel_path.specs.Limits.{file_limit};
 ghost use Rattle.workspaces.specs.Steps.{OnlyMemory, HasCause};
 ghost use Rattle.workspaces.specs.Reading.{as_fault, IsReadIn, AreReadIn, with_package};
 
 use crate::{Package, SpaceErr};
 use manifest::{Manifest, ManifestErr};
+use rel_path::limits::MAX_FILE_BYTES;
 use rel_path::{RelPath, Text};
 use std::alloc::Global;
 use tree_dev::{DevErr, Found, Tree};
-
-/// The most bytes of a manifest that is read.
-const FILE_LIMIT: u64 = 16 * 1024 * 1024;
 
 /// The package of the folder with that manifest.
 fn package_of(alloc: Global, folder: &RelPath, manifest: Manifest) -> Result<Package, SpaceErr>
@@ -84,7 +83,7 @@ fn read_package<T: Tree>(
         Ok(path) => path,
         Err(_) => return Err(SpaceErr::OutOfMemory),
     };
-    match tree.read(alloc, &path, FILE_LIMIT) {
+    match tree.read(alloc, &path, MAX_FILE_BYTES) {
         Ok(found) => package_at(alloc, folder, path, found),
         Err(DevErr::Failed) => Err(SpaceErr::Failed),
         Err(DevErr::OutOfMemory) => Err(SpaceErr::OutOfMemory),

@@ -22,10 +22,10 @@ returns-in-Err-gather-clause-collects g c = λ told.
     stop_gather _ _ _ _ c.args.env.now _ c.in-Ok.plan c.in-Ok.ensures (g.T.Tree.state c.args.tree.now).files c.requires.ascend c.in-Ok-read_all.ignores c.as_slice.result.now c.as_slice.ensures (c.in-Ok-read_all.ensures.reads told) c.in-Ok-rows_of.rows c.in-Ok-rows_of.ensures.rows
     (g.T.Tree.state c.read_all.new.tree).files c.in-Ok-read_all.ensures.looks.files c.deref.result.now c.deref.ensures.value c.as_slice-2.result.now c.as_slice-2.ensures c.in-Err-gather.e (c.in-Err-gather.ensures.reads told)
 
-pub returns-then-gathered-gt-SUM_LIMIT-clause-collects : goal.returns-then-gathered-gt-SUM_LIMIT-clause-collects
-returns-then-gathered-gt-SUM_LIMIT-clause-collects g c = λ told.
+pub returns-then-gathered-gt-MAX_INPUT_BYTES-clause-collects : goal.returns-then-gathered-gt-MAX_INPUT_BYTES-clause-collects
+returns-then-gathered-gt-MAX_INPUT_BYTES-clause-collects g c = λ told.
     stop_total _ _ _ _ c.args.env.now _ c.in-Ok.plan c.in-Ok.ensures (g.T.Tree.state c.args.tree.now).files c.requires.ascend c.in-Ok-read_all.ignores c.as_slice.result.now c.as_slice.ensures (c.in-Ok-read_all.ensures.reads told) c.in-Ok-rows_of.rows c.in-Ok-rows_of.ensures.rows
-    (g.T.Tree.state c.read_all.new.tree).files c.in-Ok-read_all.ensures.looks.files c.deref.result.now c.deref.ensures.value c.as_slice-2.result.now c.as_slice-2.ensures c.in-Ok-gather.gathered (c.in-Ok-gather.ensures.reads told) (omega (arith, c.if-gathered-gt-SUM_LIMIT.true))
+    (g.T.Tree.state c.read_all.new.tree).files c.in-Ok-read_all.ensures.looks.files c.deref.result.now c.deref.ensures.value c.as_slice-2.result.now c.as_slice-2.ensures c.in-Ok-gather.gathered (c.in-Ok-gather.ensures.reads told) (omega (arith, c.if-gathered-gt-MAX_INPUT_BYTES.true))
 
 pub all_parts-requires-clause-numbers : goal.all_parts-requires-clause-numbers
 all_parts-requires-clause-numbers g c = rw c.deref-3.ensures.value (tasks_stand _ _ _ _ c.args.env.now _ c.in-Ok.plan c.in-Ok.ensures)
@@ -49,13 +49,13 @@ pub returns-in-Ok-all_parts-clause-collects : goal.returns-in-Ok-all_parts-claus
 returns-in-Ok-all_parts-clause-collects g c = λ told.
     collected _ _ _ _ c.args.env.now _ c.in-Ok.plan c.in-Ok.ensures (g.T.Tree.state c.args.tree.now).files c.requires.ascend c.in-Ok-read_all.ignores c.as_slice.result.now c.as_slice.ensures (c.in-Ok-read_all.ensures.reads told) c.in-Ok-rows_of.rows c.in-Ok-rows_of.ensures.rows
     (g.T.Tree.state c.read_all.new.tree).files c.in-Ok-read_all.ensures.looks.files c.deref.result.now c.deref.ensures.value c.as_slice-2.result.now c.as_slice-2.ensures c.in-Ok-gather.gathered (c.in-Ok-gather.ensures.reads told) c.in-Ok-all_parts.parts
-    (made_as _ _ _ _ _ _ _ _ _ _ _ _ _ _ _ _ _ (ap (λ x. x.env) c.globals.ensures.value) c.as_slice-3.ensures c.deref-2.ensures.value c.deref-3.ensures.value c.deref-4.ensures.value c.deref-5.ensures.value c.in-Ok-all_parts.ensures.value) (omega (arith, c.if-gathered-gt-SUM_LIMIT.false))
+    (made_as _ _ _ _ _ _ _ _ _ _ _ _ _ _ _ _ _ (ap (λ x. x.env) c.globals.ensures.value) c.as_slice-3.ensures c.deref-2.ensures.value c.deref-3.ensures.value c.deref-4.ensures.value c.deref-5.ensures.value c.in-Ok-all_parts.ensures.value) (omega (arith, c.if-gathered-gt-MAX_INPUT_BYTES.false))
 
 pub returns-in-Ok-all_parts-clause-listed : goal.returns-in-Ok-all_parts-clause-listed
 returns-in-Ok-all_parts-clause-listed g c =
     some_listing _ _ _ _ c.args.env.now _ c.in-Ok.plan c.in-Ok.ensures c.requires.ascend c.in-Ok-read_all.ignores c.as_slice.result.now c.as_slice.ensures c.in-Ok-read_all.ensures.some c.in-Ok-rows_of.rows c.in-Ok-rows_of.ensures.rows
     c.deref.result.now c.deref.ensures.value c.as_slice-2.result.now c.as_slice-2.ensures c.in-Ok-gather.gathered c.in-Ok-gather.ensures.some c.in-Ok-all_parts.parts
-    (made_as _ _ _ _ _ _ _ _ _ _ _ _ _ _ _ _ _ (ap (λ x. x.env) c.globals.ensures.value) c.as_slice-3.ensures c.deref-2.ensures.value c.deref-3.ensures.value c.deref-4.ensures.value c.deref-5.ensures.value c.in-Ok-all_parts.ensures.value) (omega (arith, c.if-gathered-gt-SUM_LIMIT.false))
+    (made_as _ _ _ _ _ _ _ _ _ _ _ _ _ _ _ _ _ (ap (λ x. x.env) c.globals.ensures.value) c.as_slice-3.ensures c.deref-2.ensures.value c.deref-3.ensures.value c.deref-4.ensures.value c.deref-5.ensures.value c.in-Ok-all_parts.ensures.value) (omega (arith, c.if-gathered-gt-MAX_INPUT_BYTES.false))
 
 pub returns-in-Ok-all_parts-clause-ordered : goal.returns-in-Ok-all_parts-clause-ordered
 returns-in-Ok-all_parts-clause-ordered g c =

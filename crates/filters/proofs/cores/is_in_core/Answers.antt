@@ -12,4 +12,4 @@ returns-in-Name c = passes_held (is_in_core c.args.core.now) c.eq.result c.args.
 
 pub returns-in-Pattern : goal.returns-in-Pattern
 unfolding is_in_core
-returns-in-Pattern c = passes_held (is_in_core c.args.core.now) c.spells_name.result c.args.packages.now.packages c.args.p c.requires (λ d. rw c.in-Pattern.is (rw (c.as_bytes.ensures.value, c.as_str.ensures, c.as_bytes-in-Pattern.ensures.value, c.as_str-in-Pattern.ensures, c.name-name.ensures d) at c.spells_name.ensures))
+returns-in-Pattern c = passes_held (is_in_core c.args.core.now) c.spells.result c.args.packages.now.packages c.args.p c.requires (λ d. rw c.in-Pattern.is (rw (c.as_bytes.ensures.value, c.as_str.ensures, c.as_bytes-in-Pattern.ensures.value, c.as_str-in-Pattern.ensures, c.name-name.ensures d) at c.spells.ensures))

@@ -1,5 +1,5 @@
 use Rattle.std.proofs.Common.{◌≡◌, ◌++◌, length}
-use Rattle.glob_syntax.specs.Tokens.{members}
+use Rattle.glob_syntax.specs.Classes.{members}
 use Rattle.glob_syntax.proofs.class.read_members.Given as goal
 
 -- the ranges so far, before those of what is left

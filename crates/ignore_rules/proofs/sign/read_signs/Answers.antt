@@ -2,8 +2,8 @@ use Rattle.std.proofs.Common.{◌∙◌, sym}
 use Rattle.std.specs.Prelude.{None}
 use Rattle.glob_syntax.specs.declared.atom.Atom.TheVariants as atom
 use Rattle.ignore_rules.specs.declared.sign.Sign.TheVariants as sign
-use Rattle.ignore_rules.specs.Classes.{class_of}
-use Rattle.ignore_rules.specs.Signs.{sign_of, signs_from}
+use Rattle.glob_syntax.specs.Classes.{class_of}
+use Rattle.ignore_rules.specs.Signs.{negation, sign_of, signs_from}
 use Rattle.ignore_rules.proofs.Signs.{all_onto-push}
 use Rattle.ignore_rules.proofs.sign.read_signs.Goals as goal
 
@@ -17,7 +17,7 @@ loop-mark-preserved-in_ok-push c =
 pub loop-mark-preserved-in_ok-push-2 : goal.loop-mark-preserved-in_ok-push-2
 loop-mark-preserved-in_ok-push-2 c =
     let ends = rw c.deref.ensures.value at (sym c.ends_class.ensures ∙ c.if-ends_class.true) in
-    let step = all_onto-push c.loop-mark.signs.items (sign.Atom (atom.OneOf (class_of c.loop-mark.body.items))) (signs_from None c.in-Some.behind.now) in
+    let step = all_onto-push c.loop-mark.signs.items (sign.Atom (atom.OneOf (class_of negation c.loop-mark.body.items))) (signs_from None c.in-Some.behind.now) in
     let before = rw (c.if-not-inside.false, c.in-Some.ensures.cases.0, ends, step) at c.loop-mark.invariant in
     rw (c.in_ok-push-2.ensures.items, c.in_ok-class.ensures, c.deref-then-ends_class.ensures.value) before
 

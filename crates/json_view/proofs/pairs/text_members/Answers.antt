@@ -1,4 +1,4 @@
-use Rattle.std.proofs.Common.{◌≡◌, map, nat_cmp, rules}
+use Rattle.std.proofs.Common.{◌≡◌, nat_cmp, rules}
 use Rattle.std.specs.Prelude.{string_bytes}
 use Rattle.std.specs.Cmp.Lexicographic.{slice_cmp}
 use Rattle.serde_json.specs.View.{members_view}

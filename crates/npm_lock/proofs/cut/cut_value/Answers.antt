@@ -16,16 +16,19 @@ no_object folders locations (string s) e = refl
 no_object folders locations (array ds) e = refl
 no_object folders locations (object ms) e = absurd (cc)
 
-pub returns-in-None-clause-cut : goal.returns-in-None-clause-cut
-returns-in-None-clause-cut c =
-    c.in_ok-clone-in-None.ensures.cases ∙ no_object c.args.folders.now c.args.locations.now (view c.args.value.now) (sym c.in-None.ensures)
+pub returns-in-None : goal.returns-in-None
+returns-in-None c = record {
+  cut = c.in_ok-clone-in-None.ensures.cases ∙ no_object c.args.folders.now c.args.locations.now (view c.args.value.now) (sym c.in-None.ensures);
+}
 
-pub returns-clause-cut : goal.returns-clause-cut
+pub returns : goal.returns
 unfolding cut
-returns-clause-cut c =
+returns c =
     let folders = c.as_slice.ensures.value in
     let d = object_of (view c.args.value.now) (members_view c.in-Some.top.now.entries) (sym c.in-Some.ensures) in
-    view-Object c.in_ok-cut_members-in-Some.field-0
-    ∙ ap object (c.in_ok-cut_members-in-Some.ensures
-    ∙ ap₂ (λ f l. picked (cut_top f l) (members_view c.in-Some.top.now.entries)) (ap is_in c.as_slice.ensures.value ∙ c.in_ok-folders.ensures.same) (ap is_in c.as_slice-in-Some.ensures.value ∙ c.in_ok-locations.ensures.same))
-    ∙ ap (picked_in (cut_top (is_in c.args.folders.now) (is_in c.args.locations.now))) (sym d)
+    record {
+      cut = view-Object c.in_ok-cut_members-in-Some.field-0
+          ∙ ap object (c.in_ok-cut_members-in-Some.ensures
+          ∙ ap₂ (λ f l. picked (cut_top f l) (members_view c.in-Some.top.now.entries)) (ap is_in c.as_slice.ensures.value ∙ c.in_ok-folders.ensures.same) (ap is_in c.as_slice-in-Some.ensures.value ∙ c.in_ok-locations.ensures.same))
+          ∙ ap (picked_in (cut_top (is_in c.args.folders.now) (is_in c.args.locations.now))) (sym d);
+    }

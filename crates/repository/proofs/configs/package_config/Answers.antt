@@ -1,7 +1,7 @@
 use Rattle.std.proofs.Common.{◌≡◌, subst}
 use Rattle.rel_path.specs.Paths.{Path}
 use Rattle.tree_dev.specs.Tree.{within}
-use Rattle.workspaces.specs.Space.{file_limit}
+use Rattle.rel_path.specs.Limits.{file_limit}
 use Rattle.turbo_config.specs.Files.{package_of}
 use Rattle.repository.specs.Reading.{config_in, config_at, package_config}
 use Rattle.repository.specs.Answers.{Answers}

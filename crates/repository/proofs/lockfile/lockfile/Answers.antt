@@ -2,7 +2,7 @@ use Rattle.std.proofs.Common.{◌≡◌, ◌∙◌, ◌++◌, ◌∷◌, [], ap,
 use Rattle.std.specs.Option.{option_map}
 use Rattle.serde_json.specs.View.{view}
 use Rattle.tree_dev.specs.Tree.{within}
-use Rattle.workspaces.specs.Space.{file_limit}
+use Rattle.rel_path.specs.Limits.{file_limit}
 use Rattle.repository.specs.Steps.{at_root}
 use Rattle.repository.specs.Reading.{lock_name, lock_from, lockfile}
 use Rattle.repository.specs.Answers.{AnswersAs}

@@ -1,6 +1,7 @@
 use Rattle.std.proofs.Common.{◌≡◌, ◌∙◌, ◌++◌, ◌∷◌, [], ap, subst}
 use Rattle.tree_dev.specs.Tree.{within}
-use Rattle.workspaces.specs.Space.{file_limit, manifest_name}
+use Rattle.workspaces.specs.Space.{manifest_name}
+use Rattle.rel_path.specs.Limits.{file_limit}
 use Rattle.repository.specs.Steps.{at_root}
 use Rattle.repository.specs.Reading.{root_from, root_manifest}
 use Rattle.repository.specs.Answers.{Answers}

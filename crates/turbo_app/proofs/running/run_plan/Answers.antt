@@ -4,7 +4,7 @@ use Rattle.artifact_store.specs.declared.error.OpenErr.{OpenErr}
 use Rattle.artifact_store.specs.declared.error.OpenErr.TheVariants.{NotAStore, Damaged, Failed, OutOfMemory}
 use Rattle.artifact_store.specs.Answers.{IsFaultOf}
 use Rattle.artifact_store.specs.Store.{state_of}
-use Rattle.page.specs.declared.refusal.Refusal.{Refusal}
+use Rattle.refusals.specs.declared.refusal.Refusal.{Refusal}
 use Rattle.turbo_app.specs.Steps.{IsNoStore, IsStoreRefusal}
 use Rattle.turbo_app.proofs.Printed.{if_fault, early_as}
 use Rattle.turbo_app.proofs.running.run_plan.Goals as goal

@@ -2,7 +2,7 @@
 use Rattle.std.proofs.Common.{refl, sym, subst, inr}
 use Rattle.rel_path.specs.Causes.{Counts}
 use Rattle.artifact_store.specs.Answers.{is_fault, raised}
-use Rattle.page.specs.declared.refusal.Refusal.TheVariants.{NotAStore, Damaged}
+use Rattle.refusals.specs.declared.refusal.Refusal.TheVariants.{NotAStore, Damaged}
 use Rattle.turbo_app.specs.Answers.{HasCauseIn, counts_of}
 use Rattle.turbo_app.proofs.Printed.{if_fault}
 use Rattle.turbo_app.proofs.running.unopened.Goals as goal

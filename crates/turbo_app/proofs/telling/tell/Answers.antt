@@ -1,7 +1,7 @@
 -- Of the line some first part was printed.
 use Rattle.std.proofs.Common.{◌∙◌, subst}
 use Rattle.page.specs.Answers.{Emits}
-use Rattle.page.specs.Refusals.{device_fault_line}
+use Rattle.refusals.specs.Refusals.{device_fault_line}
 use Rattle.turbo_app.proofs.Printed.{emits_some}
 use Rattle.turbo_app.proofs.telling.tell.Goals as goal
 

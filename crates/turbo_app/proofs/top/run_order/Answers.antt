@@ -1,51 +1,45 @@
--- Looking at the tree changes nothing that runs.
-use Rattle.std.proofs.Common.{sym, ap, subst, inl, inr, ℕ, Bool, List, Ok, Err}
-use Rattle.rel_path.specs.Causes.{Counts}
-use Rattle.spawn_dev.specs.Spawn.{IsIdle}
-use Rattle.cli_words.specs.declared.order.Order.TheVariants.{Run}
-use Rattle.cli_words.specs.declared.order.RunOrder.{RunOrder}
-use Rattle.run_laws.specs.Effects.{Book}
-use Rattle.run_plan.specs.declared.plan.Plan.{Plan}
-use Rattle.plan_laws.specs.Laws.{AsksFor}
-use Rattle.turbo_app.specs.Answers.{HasCauseIn, counts_of}
-use Rattle.turbo_app.specs.Outcomes.{Moment}
-use Rattle.turbo_app.specs.Steps.{is_failed, raised, AsksAs}
-use Rattle.turbo_app.specs.Stops.{StopsPlan, StoppedBy}
-use Rattle.turbo_app.proofs.Printed.{if_fault, early_as}
+-- What is not built is refused, and all else is done.
+use Rattle.std.proofs.Common.{◌≡◌, Some, None, inl, inr, refl, rules}
+use Rattle.refusals.specs.declared.refusal.Refusal.TheVariants as refusal
+use Rattle.turbo_app.specs.Asking.{unbuilt_run}
+use Rattle.turbo_app.proofs.Only.{only_refused}
+use Rattle.turbo_app.proofs.Printed.{if_fault}
+use Rattle.turbo_app.proofs.NotBuilt.{not_done, if_refused, nothing_but, unbuilt_refused, built_refused, refused_unbuilt, refused_built, stopped_built}
 use Rattle.turbo_app.proofs.top.run_order.Goals as goal
 
-pub run_plan-requires-clause-idle : goal.run_plan-requires-clause-idle
-run_plan-requires-clause-idle g c = subst (λ r. IsIdle r) (sym (g.met.W.Spawner.runs_by_rest _ _ c.asked.ensures.looks.rest)) c.requires.idle
+pub returns-in-Some-clause-ran : goal.returns-in-Some-clause-ran
+returns-in-Some-clause-ran g c told store = not_done c.refuse.result _ c.refuse.ensures.not_done
 
-pub returns-in-Err-clause-idle : goal.returns-in-Err-clause-idle
-returns-in-Err-clause-idle g c = subst (λ r. IsIdle r) (sym (g.met.W.Spawner.runs_by_rest _ _ c.asked.ensures.looks.rest)) c.requires.idle
+pub returns-in-Some-clause-refused : goal.returns-in-Some-clause-refused
+returns-in-Some-clause-refused g c told store =
+    let is : unbuilt_run c.args.order.now ≡ Some c.in-Some.form = search rules in
+    if_refused c.refuse.result _ _ (unbuilt_refused c.args.order.now c.args.env.now _ _ c.in-Some.form is) c.refuse.ensures.refused
 
-pub returns-in-Err-clause-cause : goal.returns-in-Err-clause-cause
-returns-in-Err-clause-cause g c =
-    let before = (g.W.Tree.state c.args.world.now).faults in
-    let after = (g.W.Tree.state c.asked.new.tree).faults in
-    let start = (g.W.Spawner.runs c.args.world.now).faults in
-    let counts : Counts {T = Unit {0}} is_failed before after (raised c.in-Err.stop) = record { later = c.in-Err.ensures.cause.later; counted = c.in-Err.ensures.cause.counted } in
-    subst (λ s. HasCauseIn (counts_of before (g.S.StoreDevice.store_faults c.args.store) start (g.K.Sink.faults c.args.out.now)) (counts_of after (g.S.StoreDevice.store_faults c.args.store) s (g.K.Sink.faults c.unplanned.new.out)) c.unplanned.result)
-    (sym (ap (λ r. r.faults) (g.met.W.Spawner.runs_by_rest _ _ c.asked.ensures.looks.rest)))
-    (c.unplanned.ensures.cause before after (g.S.StoreDevice.store_faults c.args.store) start counts)
+pub returns-in-Some-clause-only : goal.returns-in-Some-clause-only
+returns-in-Some-clause-only g c told store reason refused =
+    let is : unbuilt_run c.args.order.now ≡ Some c.in-Some.form = search rules in
+    nothing_but c.refuse.result reason (refusal.NotBuilt c.in-Some.form) (refused_unbuilt c.args.order.now c.args.env.now _ _ c.in-Some.form is reason refused) c.refuse.ensures.not_done c.refuse.ensures.refused
 
--- where the plan was run, or its store not opened
-stops_planned : (order : RunOrder) (env : List (List ℕ × List ℕ)) (plan : Plan) (book : Book) (old : Moment) (after : List ℕ) → AsksFor order env old.files (Ok plan)
-    → (output_failed : Bool) (line : List ℕ) → StopsPlan order.dry book plan old after output_failed line → StoppedBy (Ok (Run order)) book env old after output_failed line
-stops_planned order env plan book old after asks output_failed line (inl early) =
-    inl (early_as _ _ (λ reason no. inr (record { plan = plan; asks = asks; fault = no.fault; reads = no.reads; is = no.is })) old.printed after output_failed line early)
-stops_planned order env plan book old after asks output_failed line (inr stops) = inr (record { plan = plan; asks = asks; pairs = stops.0; opened = stops.1; stops = stops.2 })
+pub returns-in-Some-clause-stopped : goal.returns-in-Some-clause-stopped
+returns-in-Some-clause-stopped g c told store heard =
+    let is : unbuilt_run c.args.order.now ≡ Some c.in-Some.form = search rules in
+    if_fault c.refuse.result _ _ (λ output_failed line cut. inl (inr (cut.0, refusal.NotBuilt c.in-Some.form, unbuilt_refused c.args.order.now c.args.env.now _ _ c.in-Some.form is _ refl, cut.1))) (c.refuse.ensures.cut heard)
 
-pub returns-in-Ok-clause-stopped : goal.returns-in-Ok-clause-stopped
-returns-in-Ok-clause-stopped g c told store heard =
-    let runs = g.met.W.Spawner.runs_by_rest _ _ c.asked.ensures.looks.rest in
-    let stopped = c.run_plan.ensures.stopped told store heard in
-    let known = rw (runs, c.asked.ensures.looks.files) at stopped in
-    if_fault c.run_plan.result.0 _ _ (stops_planned c.args.order.now c.args.env.now c.in-Ok.plan _ _ _ (c.in-Ok.ensures.asks told)) known
+pub returns-in-Some-clause-cause : goal.returns-in-Some-clause-cause
+returns-in-Some-clause-cause g c = c.refuse.ensures.cause (g.W.Tree.state c.args.world.now).faults (g.S.StoreDevice.store_faults c.args.store) (g.W.Spawner.runs c.args.world.now).faults
 
-pub returns-in-Err-clause-stopped : goal.returns-in-Err-clause-stopped
-returns-in-Err-clause-stopped g c told store heard =
-    if_fault c.unplanned.result _ _
-    (λ output_failed line early. inl (early_as _ _ (λ reason is. inl (subst (λ stop. AsksAs c.args.order.now c.args.env.now (g.W.Tree.state c.args.world.now).files (Err stop)) is (c.in-Err.ensures.asks told))) _ _ output_failed line early))
-    (c.unplanned.ensures.stopped heard)
+pub returns-in-None-clause-refused : goal.returns-in-None-clause-refused
+returns-in-None-clause-refused g c told store =
+    let is : unbuilt_run c.args.order.now ≡ None = search rules in
+    if_refused c.run_built.result.0 _ _ (built_refused c.args.order.now c.args.env.now _ _ is) (c.run_built.ensures.refused told store)
+
+pub returns-in-None-clause-only : goal.returns-in-None-clause-only
+returns-in-None-clause-only g c told store reason refused =
+    let is : unbuilt_run c.args.order.now ≡ None = search rules in
+    only_refused c.order_law.ensures c.args.order.now c.args.env.now _ _ _ _ _ c.run_built.result.0 refl (c.run_built.ensures.ran told store) (c.run_built.ensures.refused told store) reason
+    (refused_built c.args.order.now c.args.env.now _ _ is reason refused)
+
+pub returns-in-None-clause-stopped : goal.returns-in-None-clause-stopped
+returns-in-None-clause-stopped g c told store heard =
+    let is : unbuilt_run c.args.order.now ≡ None = search rules in
+    if_fault c.run_built.result.0 _ _ (stopped_built c.args.order.now c.args.env.now _ _ _ is) (c.run_built.ensures.stopped told store heard)

@@ -1,9 +1,8 @@
 -- What words ask for, by their order.
-use Rattle.std.proofs.Common.{◌∙◌, ap, refl, subst, Ok}
+use Rattle.std.proofs.Common.{◌∙◌, ap, subst, Ok}
 use Rattle.cli_words.specs.declared.order.Order.TheVariants.{Run}
 use Rattle.turbo_app.specs.Asking.{IsRefusedOrder}
 use Rattle.turbo_app.proofs.Causes.{no_fault}
-use Rattle.turbo_app.proofs.Only.{only_refused}
 use Rattle.turbo_app.proofs.top.turbo.Goals as goal
 
 pub run_order-requires-clause-wide : goal.run_order-requires-clause-wide
@@ -24,6 +23,18 @@ returns-in-Ok-Prune-clause-cause g c = c.refuse.ensures.cause (g.W.Tree.state c.
 pub returns-in-Ok-Prune-clause-quiet : goal.returns-in-Ok-Prune-clause-quiet
 returns-in-Ok-Prune-clause-quiet g c = λ quiet. no_fault _ _ c.refuse.result (c.refuse.ensures.cause (g.W.Tree.state c.args.world.now).faults (g.S.StoreDevice.store_faults c.args.store) (g.W.Spawner.runs c.args.world.now).faults) quiet
 
+pub returns-in-Ok-Sample-clause-cause : goal.returns-in-Ok-Sample-clause-cause
+returns-in-Ok-Sample-clause-cause g c = c.refuse-in-Ok-Sample.ensures.cause (g.W.Tree.state c.args.world.now).faults (g.S.StoreDevice.store_faults c.args.store) (g.W.Spawner.runs c.args.world.now).faults
+
+pub returns-in-Ok-Sample-clause-quiet : goal.returns-in-Ok-Sample-clause-quiet
+returns-in-Ok-Sample-clause-quiet g c = λ quiet. no_fault _ _ c.refuse-in-Ok-Sample.result (c.refuse-in-Ok-Sample.ensures.cause (g.W.Tree.state c.args.world.now).faults (g.S.StoreDevice.store_faults c.args.store) (g.W.Spawner.runs c.args.world.now).faults) quiet
+
+pub returns-in-Ok-Compact-clause-cause : goal.returns-in-Ok-Compact-clause-cause
+returns-in-Ok-Compact-clause-cause g c = c.refuse-in-Ok-Compact.ensures.cause (g.W.Tree.state c.args.world.now).faults (g.S.StoreDevice.store_faults c.args.store) (g.W.Spawner.runs c.args.world.now).faults
+
+pub returns-in-Ok-Compact-clause-quiet : goal.returns-in-Ok-Compact-clause-quiet
+returns-in-Ok-Compact-clause-quiet g c = λ quiet. no_fault _ _ c.refuse-in-Ok-Compact.result (c.refuse-in-Ok-Compact.ensures.cause (g.W.Tree.state c.args.world.now).faults (g.S.StoreDevice.store_faults c.args.store) (g.W.Spawner.runs c.args.world.now).faults) quiet
+
 pub returns-clause-cause : goal.returns-clause-cause
 returns-clause-cause g c = c.refuse_words.ensures.cause (g.W.Tree.state c.args.world.now).faults (g.S.StoreDevice.store_faults c.args.store) (g.W.Spawner.runs c.args.world.now).faults
 
@@ -35,5 +46,4 @@ returns-in-Ok-Run-clause-only g c told store reason refused =
     let files = (g.W.Tree.state c.args.world.now).files in
     let stored = g.S.StoreDevice.content c.args.store in
     let order = c.in-Ok-Run.ensures.order ∙ ap (λ o. Ok o) c.in-Ok-Run.field-0-is in
-    only_refused c.order_law.ensures c.in-Ok-Run.order c.args.env.now files _ _ _ _ c.run_order.result.0 refl (c.run_order.ensures.ran told store) (c.run_order.ensures.refused told store) reason
-    (subst (λ o. IsRefusedOrder o c.args.env.now files stored reason) order refused)
+    c.run_order.ensures.only told store reason (subst (λ o. IsRefusedOrder o c.args.env.now files stored reason) order refused)

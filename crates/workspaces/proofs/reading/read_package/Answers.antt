@@ -1,6 +1,7 @@
 use Rattle.std.proofs.Common.{◌≡◌, ◌∙◌, ap, subst}
 use Rattle.tree_dev.specs.Tree.{within}
-use Rattle.workspaces.specs.Space.{manifest_in, file_limit, package_at, Discovers}
+use Rattle.workspaces.specs.Space.{manifest_in, package_at, Discovers}
+use Rattle.rel_path.specs.Limits.{file_limit}
 use Rattle.workspaces.proofs.ReadIn.{discovers}
 use Rattle.workspaces.proofs.reading.read_package.Goals as goal
 

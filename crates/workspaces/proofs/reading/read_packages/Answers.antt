@@ -1,7 +1,8 @@
 use Rattle.std.proofs.Common.{◌≡◌, ◌∙◌, ◌+◌, ◌++◌, ◌∷◌, ◌⊎◌, ap, sym, subst, refl, arith, drop, take, [], Ok, Err}
 use Rattle.std.proofs.lemmas.List.{take_more, drop_all}
 use Rattle.tree_dev.specs.Tree.{within}
-use Rattle.workspaces.specs.Space.{manifest_in, file_limit, package_at, packages_at}
+use Rattle.workspaces.specs.Space.{manifest_in, package_at, packages_at}
+use Rattle.rel_path.specs.Limits.{file_limit}
 use Rattle.workspaces.specs.declared.error.SpaceErr.TheVariants.{OutOfMemory, Failed}
 use Rattle.workspaces.proofs.Loops.{turn}
 use Rattle.workspaces.proofs.ReadIn.{one_more, refused_or, all_read, nothing_yet, none_read, read_some, opened}

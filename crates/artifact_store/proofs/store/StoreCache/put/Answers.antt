@@ -10,14 +10,14 @@ use Rattle.artifact_store.specs.Laws.{images_stand}
 use Rattle.artifact_store.proofs.Carry.{frame_size, with_or_without, store_leaves}
 use Rattle.artifact_store.proofs.store.StoreCache.put.Goals as goal
 
-pub returns-then-need_for-room-clause-full : goal.returns-then-need_for-room-clause-full
-returns-then-need_for-room-clause-full g c full =
+pub returns-then-need_for-pair_room-clause-full : goal.returns-then-need_for-pair_room-clause-full
+returns-then-need_for-pair_room-clause-full g c full =
     let pair = pair_for c.args.key.now (artifact c.args.artifact.now) in
-    omega (arith, frame_size pair, c.need_for.ensures, c.room.ensures.room, c.if-need_for-room.true)
+    omega (arith, frame_size pair, c.need_for.ensures, c.pair_room.ensures, c.if-need_for-pair_room.true)
 
 -- where nothing was done, a crash leaves the pairs
-pub returns-then-need_for-room-clause-left : goal.returns-then-need_for-room-clause-left
-returns-then-need_for-room-clause-left g c told =
+pub returns-then-need_for-pair_room-clause-left : goal.returns-then-need_for-pair_room-clause-left
+returns-then-need_for-pair_room-clause-left g c told =
     let store = c.args.self.now in
     let pair = pair_for c.args.key.now (artifact c.args.artifact.now) in
     started moment_of left_of store (IsWithOrWithout (pairs_in (frames_in store.log)) pair) (λ o (image, was, is). inl (is ∙ images_stand (store.log.kept c.requires told) image (g.met.S.StoreDevice.only_now store.log.device image was)))

@@ -1,5 +1,5 @@
 use Rattle.spawn_dev.specs.RunningLaws.{some_known}
-use Rattle.os_edge.specs.World.{itself}
+use Rattle.os_children.specs.Taking.{itself}
 use Rattle.os_edge.proofs.world.OsWorldSpawner.is_idle.Goals as goal
 
 pub returns-clause-busy : goal.returns-clause-busy

@@ -1,9 +1,6 @@
-use Rattle.record_log.proofs.Places.{kept_front}
+use Rattle.record_log.specs.Frames.{frames_of}
+use Rattle.record_log.proofs.Places.{mark_none}
 use Rattle.record_log.proofs.log.Log.open.Goals as goal
 
-pub invariant_of-result : goal.invariant_of-result
-invariant_of-result g c = record {
-  small = c.in-Ok.ensures.small;
-  front = λ told. kept_front (c.in-Ok.ensures.kept told);
-  kept = λ _ told. c.in-Ok.ensures.kept told;
-}
+pub resume-requires : goal.resume-requires
+resume-requires g c told = mark_none c.new.result c.new.ensures.seats c.new.ensures.end c.new.ensures.contents c.new.ensures.generation (frames_of (g.S.StoreDevice.content c.args.store))

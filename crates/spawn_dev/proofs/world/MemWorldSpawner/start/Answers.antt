@@ -32,11 +32,11 @@ invariant_of-self-2 c =
     let same : file_at c.fails_now.new.self.files ≡ file_at old.tree.files = ap (λ s. s.files) c.fails_now.ensures.state in
     record {
       absent = absent_with c.args.command.outs old.progress.running.items c.start.new.self.running.items (file_at old.tree.files) (file_at c.fails_now.new.self.files)
-          same c.start.ensures.held (c.requires.absent tt) old.absent;
+          same c.start.ensures.held c.requires.absent old.absent;
     }
 
 pub returns-clause-begins : goal.returns-clause-begins
-returns-clause-begins c = λ told.
+returns-clause-begins c =
     let old = c.args.self.now in
     let files : file_at c.as_slice-2.result.now ≡ file_at old.tree.files = ap file_at c.as_slice-2.ensures ∙ sym c.files.ensures ∙ ap (λ s. s.files) c.fails_now.ensures.state in
     let effect : c.in_ok-effect.effect ≡ effect_of old.book (seen_by c.args.command (file_at old.tree.files)) =

@@ -1,5 +1,0 @@
-use Rattle.std.proofs.Common.{◌≡◌, map}
-use Rattle.os_edge.proofs.waiting.Watch.close_one.Given as goal
-
-abbrev pub invariant-loop : goal.invariant-loop
-invariant-loop g l = map (λ r. r.command) l.running ≡ map (λ r. r.command) l.initial.running

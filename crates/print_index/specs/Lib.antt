@@ -1,0 +1,4 @@
+pub mod Digests
+pub mod Index
+pub mod Fields
+pub mod Inside
