@@ -1,6 +1,6 @@
 #!/usr/bin/env bash
 # Tries the built program where no test of a crate can: with closed descriptors, in two runs at once on one store,
-# with faults of files and of the store, and with processes that are left behind.
+# with faults of files and of the store, with processes that are left behind, and with files of the greatest size.
 #
 #     checks/edge.sh PROGRAM
 #
@@ -127,5 +127,54 @@ alive() {
     [ "$(sed '/^Script done/d' "$work/screen" | tail -c 5)" = "$(printf '\r\033[K')" ]
 }
 check 'a terminal shows what runs, and nothing is left of that' alive
+
+# ---- files of the greatest size, which are sparse here
+
+largest=$((256 * 1024 * 1024))
+
+largest_input() {
+    one "$build"
+    truncate -s $largest packages/ui/src/large
+    "$program" build | grep -q '1 successful, 1 total' || return 1
+    truncate -s $((largest + 1)) packages/ui/src/large
+    "$program" build | grep -qx 'turbo: too large: packages/ui/src/large'
+}
+check 'an input of 256 MiB is taken, and none of a byte more' largest_input
+
+large_elsewhere() {
+    one "$build"
+    truncate -s $((largest + 1)) large
+    "$program" build | grep -q '1 successful, 1 total' || return 1
+    truncate -s $((largest + 1)) .gitignore
+    "$program" build | grep -qx 'turbo: too large: .gitignore'
+}
+check 'a file that is no input may be larger, and no ignore file may' large_elsewhere
+
+large_together() {
+    one "$build"
+    local n
+    for n in 1 2 3 4; do truncate -s $largest packages/ui/src/large$n; done
+    "$program" build | grep -qx "turbo: inputs too large: $((4 * largest + $(cat packages/ui/src/a.txt packages/ui/package.json | wc -c)))"
+}
+check 'inputs of more than 1 GiB together are too many' large_together
+
+large_output() {
+    one "mkdir -p dist; truncate -s $((largest + 1)) dist/large"
+    "$program" build | grep -qx 'ui:build: not stored, large packages/ui/dist/large'
+}
+check 'an output of more than 256 MiB is not kept' large_output
+
+# ---- tasks of the root
+
+root_task() {
+    one "$build"
+    echo '{"name":"root","scripts":{"fmt":"pwd >where; echo formatted"},"workspaces":["packages/*"]}' >package.json
+    echo '{"tasks":{"//#fmt":{"outputs":["**"]},"build":{"outputs":["dist/**"]}}}' >turbo.json
+    "$program" fmt | grep -qx '//:fmt: formatted' || return 1
+    [ "$(cat where)" = "$(pwd -P)" ] && [ -e packages/ui/src/a.txt ] && [ -e .turbo/turbo-fmt.log ] || return 1
+    rm where
+    "$program" fmt | grep -q '1 cached, 1 total' && [ -e where ]
+}
+check 'a task of the root runs in the root folder, and owns no file of a package' root_task
 
 exit $failed

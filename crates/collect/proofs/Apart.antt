@@ -1,22 +1,23 @@
 -- The tasks of a listing of any files keep out of each other's way.
-use Rattle.std.proofs.Common.{◌≡◌, ◌≢◌, ◌<◌, ℕ, zero, suc, ◌==◌, ◌⊎◌, inl, inr, Bool, true, false, cond, ◌||◌, ◌&&◌, List, [], ◌∷◌, ◌++◌, length, map, filter, get_or, refl, sym, ap, ◌∙◌, subst, arith}
+use Rattle.std.proofs.Common.{◌≡◌, ◌≢◌, ◌<◌, ℕ, zero, suc, ◌==◌, ◌⊎◌, inl, inr, Bool, true, false, cond, ◌||◌, ◌&&◌, List, [], ◌∷◌, ◌++◌, length, map, filter, get_or, refl, sym, ap, ◌∙◌}
 use Rattle.std.specs.Prelude.{Option, Some, None, is_some, not, bytes_eq, codes, AllPairs, nat_lt}
 use Rattle.std.specs.Option.{option_map}
 use Rattle.std.specs.List.{list_any, slice_get, cons_option, filter_map}
 use Rattle.std.proofs.lemmas.Bool.{cases_eq, false≢true, true≢false, or_left, or_right, or_parts, and_parts}
 use Rattle.std.proofs.lemmas.Option.{slice_get_within, slice_get-get_or}
 use Rattle.serde_json.specs.Data.{Data}
-use Rattle.rel_path.specs.Paths.{Path, path_eq, name_eq, strip}
+use Rattle.rel_path.specs.Paths.{Path, path_eq, name_eq, is_among}
 use Rattle.rel_path.specs.Files.{FileMap, has}
-use Rattle.rel_path.proofs.PathLaws.{path_same, name_same, name_self, strip_append}
+use Rattle.rel_path.proofs.PathLaws.{path_same, name_same, strip_append}
 use Rattle.tree_walk.specs.Traversal.{passes, passes_if, reached}
 use Rattle.tree_walk.specs.Walked.{walk_choice, is_open}
 use Rattle.globs.specs.declared.out_set.OutSet.{OutSet}
 use Rattle.globs.specs.Lists.{list_takes}
 use Rattle.globs.specs.Outputs.{may_declare, declares_below, declares, any_declares, takes, shares}
+use Rattle.folder_globs.specs.Laws.{ListLaw}
 use Rattle.workspaces.specs.declared.member.Package.{Package}
 use Rattle.workspaces.specs.Edges.{text_by}
-use Rattle.workspaces.specs.Space.{Space, is_proper, lies_below, manifest_in, manifest_name}
+use Rattle.workspaces.specs.Space.{Space, owners, is_proper, lies_below, manifest_in, manifest_name}
 use Rattle.turbo_config.specs.declared.entry.TaskDef.{TaskDef}
 use Rattle.turbo_config.specs.Names.{is_task_name, is_reserved, is_nothing, begins_caret}
 use Rattle.turbo_config.specs.Setup.{Setup, task_def}
@@ -26,92 +27,19 @@ use Rattle.listing.specs.declared.part.Listing.{Listing}
 use Rattle.run_laws.specs.Ancestors.{blank, part_at, has_script, is_nil}
 use Rattle.run_laws.specs.Closures.{names}
 use Rattle.run_laws.specs.Plans.{log_name, log_path, has_dollar, LogLaw, AreApart}
-use Rattle.task_inputs.specs.Homes.{LieApart, Configured, configured_by, configured_in, configured, home_of, declares_in, declared_in, is_declared, others_than}
+use Rattle.task_inputs.specs.Homes.{Configured, configured_by, configured_in, configured, home_of, folders_of, is_home, declares_in, declared_in, is_declared, others_than}
 use Rattle.task_inputs.specs.Inputs.{is_input, config_in, is_manifest, is_asked, is_global}
 use Rattle.task_inputs.specs.Ignores.{is_left_out}
 use Rattle.collect.specs.declared.wanted.Wanted.{Wanted}
-use Rattle.collect.specs.Tasks.{package_named}
-use Rattle.collect.specs.Parts.{IsPart, scripts_by, scripts_of}
+use Rattle.collect.specs.Parts.{IsPart, scripts_by, scripts_of, exclusions_for}
 use Rattle.collect.specs.Listings.{IsListing}
 use Rattle.collect.specs.Laws.{CanBeListed, IsSound, ListingLaw}
 use Rattle.collect.proofs.Lists.{paired_back, got}
-use Rattle.collect.proofs.Whole.{and_right}
-use Rattle.collect.proofs.Order.{naming, holds_inputs, is_ordered}
-
-some_same : {X : Type 0} (x y : X) → Some x ≡ Some y → x ≡ y
-some_same x y e = cc
-
--- ---- two folders
-
--- none of two folders that lie apart has what lies in the other
-clash : (a b path r s : Path) → strip a path ≡ Some r → strip b path ≡ Some s → strip a b ≡ None → strip b a ≡ None → ⊥
-clash [] b path r s ea eb ab ba = cc
-clash (x ∷ xs) [] path r s ea eb ab ba = cc
-clash (x ∷ xs) (y ∷ ys) [] r s ea eb ab ba = cc
-clash (x ∷ xs) (y ∷ ys) (n ∷ ns) r s ea eb ab ba = by (name_eq x n) refl (name_eq y n) refl ea eb (clash xs ys ns r s) where
-  by : (t : Bool) → name_eq x n ≡ t → (u : Bool) → name_eq y n ≡ u → cond t (strip xs ns) None ≡ Some r → cond u (strip ys ns) None ≡ Some s → (strip xs ns ≡ Some r → strip ys ns ≡ Some s → strip xs ys ≡ None → strip ys xs ≡ None → ⊥) → ⊥
-  by false e u f a b inner = cc
-  by true e false f a b inner = cc
-  by true e true f a b inner =
-      let same : x ≡ y = name_same x n e ∙ sym (name_same y n f) in
-      let xy : name_eq x y ≡ true = ap (name_eq x) (sym same) ∙ name_self x in
-      let yx : name_eq y x ≡ true = ap (name_eq y) same ∙ name_self y in
-      inner a b (ap (λ v. cond v (strip xs ys) None) (sym xy) ∙ ab) (ap (λ v. cond v (strip ys xs) None) (sym yx) ∙ ba)
-
--- neither folder lies in the other
-abbrev Apart : Path → Path → Type 0
-Apart a b = (strip a b ≡ None) × (strip b a ≡ None)
-
--- ---- packages by their names
-
-place_of : (packages : List Package) (name : List ℕ) (m : Package) → package_named packages name ≡ Some m → (i : ℕ) × (slice_get packages i ≡ Some m) × (m.name ≡ name)
-place_of [] name m e = cc
-place_of (p ∷ packages) name m e = by (bytes_eq p.name name) refl e (place_of packages name m) where
-  by : (b : Bool) → bytes_eq p.name name ≡ b → cond b (Some p) (package_named packages name) ≡ Some m → (package_named packages name ≡ Some m → (i : ℕ) × (slice_get packages i ≡ Some m) × (m.name ≡ name)) → (i : ℕ) × (slice_get (p ∷ packages) i ≡ Some m) × (m.name ≡ name)
-  by true t f more = let same : p ≡ m = some_same p m f in (0, f, ap (λ (q : Package). q.name) (sym same) ∙ name_same p.name name t)
-  by false t f more = let n = more f in (suc n.0, n.1, n.2)
-
-less_or_more : (a b : ℕ) → a ≢ b → (a < b) ⊎ (b < a)
-less_or_more zero zero ne = absurd (ne refl)
-less_or_more zero (suc b) ne = inl (omega arith)
-less_or_more (suc a) zero ne = inr (omega arith)
-less_or_more (suc a) (suc b) ne = elim (less_or_more a b (λ e. ne (ap suc e))) [ inl less ↦ inl (omega (arith, less)) | inr more ↦ inr (omega (arith, more)) ]
-
-lie_apart : (packages : List Package) (i k : ℕ) (m n : Package) → LieApart packages → i < k → slice_get packages i ≡ Some m → slice_get packages k ≡ Some n → Apart m.folder n.folder
-lie_apart packages i k m n apart less at_i at_k =
-    let both = apart i k m less (slice_get_within packages k n at_k) in
-    subst (λ (x : Package). Apart x.folder n.folder) (got packages i m m at_i) (subst (λ (y : Package). Apart (get_or packages i m).folder y.folder) (got packages k n m at_k) both)
-
--- packages of two names are one, with one name, or their folders lie apart
-same_or_apart : (packages : List Package) (v w : List ℕ) (m n : Package) → LieApart packages → package_named packages v ≡ Some m → package_named packages w ≡ Some n → ((m ≡ n) × (v ≡ w)) ⊎ Apart m.folder n.folder
-same_or_apart packages v w m n apart ev ew = by (cases_eq i.0 k.0) where
-  i : (p : ℕ) × (slice_get packages p ≡ Some m) × (m.name ≡ v)
-  i = place_of packages v m ev
-
-  k : (p : ℕ) × (slice_get packages p ≡ Some n) × (n.name ≡ w)
-  k = place_of packages w n ew
-
-  one : (p q : ℕ) → slice_get packages p ≡ Some m → slice_get packages q ≡ Some n → p ≡ q → m ≡ n
-  one p q a b e = some_same m n (sym a ∙ ap (slice_get packages) e ∙ b)
-
-  by : (i.0 ≡ k.0) ⊎ (i.0 ≢ k.0) → ((m ≡ n) × (v ≡ w)) ⊎ Apart m.folder n.folder
-  by (inl e) = let same = one i.0 k.0 i.1 k.1 e in inl (same, sym i.2 ∙ ap (λ (p : Package). p.name) same ∙ k.2)
-  by (inr ne) = elim (less_or_more i.0 k.0 ne) [
-    | inl less ↦ inr (lie_apart packages i.0 k.0 m n apart less i.1 k.1)
-    | inr more ↦ let both = lie_apart packages k.0 i.0 n m apart more k.1 i.1 in inr (both.1, both.0)
-  ]
+use Rattle.collect.proofs.Whole.{and_right, get_map, some_same}
+use Rattle.collect.proofs.Order.{any_from, all_get, naming, holds_inputs, is_ordered}
+use Rattle.collect.proofs.Owners.{less_or_more, and_none, both_true, one_name, not_kept, owner_place, package_or_root, inner_at, one_home, one_folder, package_home, declared_below, own}
 
 -- ---- what is declared
-
-declared_rest : (outputs : List (List ℕ)) (folder path : Path) → declares outputs folder path ≡ true → (rest : Path) × (strip folder path ≡ Some rest) × (may_declare rest ≡ true)
-declared_rest outputs folder path e = by (strip folder path) refl e where
-  by : (o : Option Path) → strip folder path ≡ o → declares_below outputs o ≡ true → (rest : Path) × (strip folder path ≡ Some rest) × (may_declare rest ≡ true)
-  by None s f = absurd (false≢true f)
-  by (Some rest) s f = (rest, s, (and_parts (may_declare rest) _ f).0)
-
--- what is declared in one folder is not in another that lies apart
-declared_apart : (mine other : List (List ℕ)) (a b path : Path) → declares mine a path ≡ true → declares other b path ≡ true → Apart a b → ⊥
-declared_apart mine other a b path e f apart = let x = declared_rest mine a path e in let y = declared_rest other b path f in clash a b path x.0 y.0 x.1 y.1 apart.0 apart.1
 
 none_declared : (outputs : List (List ℕ)) (folder rest : Path) → may_declare rest ≡ false → declares outputs folder (folder ++ rest) ≡ false
 none_declared outputs folder rest bad = ap (declares_below outputs) (strip_append folder rest) ∙ ap (λ b. b && list_takes outputs rest) bad
@@ -152,10 +80,6 @@ name_other a b ne = by (name_eq a b) refl where
   by : (t : Bool) → name_eq a b ≡ t → t ≡ false
   by true e = absurd (ne (name_same a b e))
   by false e = refl
-
-and_none : (a : Bool) {b : Bool} → b ≡ false → (a && b) ≡ false
-and_none true e = e
-and_none false e = refl
 
 closed_below : (folder front : Path) (last : List ℕ) → passes walk_choice.enters front (folder ++ codes ".turbo" ∷ last ∷ []) ≡ false
 unfolding passes
@@ -208,7 +132,7 @@ all_differ wanted j k v w ids at_j at_k same = by (cases_eq j k) where
     | inr more ↦ ids k j v more (slice_get_within wanted j v at_j) (ap (λ (x : Wanted). x.id) (value k w at_k) ∙ sym same ∙ ap (λ (x : Wanted). x.id) (sym (value j v at_j)))
   ])
 
-module _ (definitions : DefinitionLaw) (logs : LogLaw) (setup : Setup) (space : Space) (lock : Option Data) (files : FileMap) (walk : List Path) (env : List (List ℕ × List ℕ)) (wanted : List Wanted) (l : Listing) (can : CanBeListed space.packages walk wanted) (is : IsListing setup space lock files walk env wanted l) where
+module _ (definitions : DefinitionLaw) (logs : LogLaw) (lists : ListLaw) (setup : Setup) (space : Space) (lock : Option Data) (files : FileMap) (walk : List Path) (env : List (List ℕ × List ℕ)) (wanted : List Wanted) (l : Listing) (can : CanBeListed space walk wanted) (is : IsListing setup space lock files walk env wanted l) where
   -- a part with its wanted task
   abbrev Stands : ℕ → Part → Type 0
   Stands j part = (w : Wanted) × (slice_get wanted j ≡ Some w) × IsPart setup space lock files walk env w part
@@ -219,17 +143,36 @@ module _ (definitions : DefinitionLaw) (logs : LogLaw) (setup : Setup) (space : 
   with_script : (j : ℕ) → has_script (part_at l j) ≡ true → Stands j (part_at l j)
   with_script j e = stands j (part_at l j) (script_there l.parts j e)
 
-  -- two parts have one package or folders that lie apart
-  two_parts : (j k : ℕ) (a b : Part) → (s : Stands j a) → (t : Stands k b) → ((s.2.member ≡ t.2.member) × (s.0.id.«package» ≡ t.0.id.«package»)) ⊎ Apart s.2.member.folder t.2.member.folder
-  two_parts j k a b s t = same_or_apart space.packages s.0.id.«package» t.0.id.«package» s.2.member t.2.member can.apart s.2.stands t.2.stands
+  -- the number of a part's owner
+  owner : (j : ℕ) (a : Part) (s : Stands j a) → (i : ℕ) × (slice_get (owners space) i ≡ Some s.2.member) × (s.2.member.name ≡ s.0.id.«package»)
+  owner j a s = owner_place space s.0.id.«package» s.2.member s.2.stands
+
+  -- parts whose owners have one number have one owner, by one name
+  one_owner : (j k : ℕ) (a b : Part) (s : Stands j a) (t : Stands k b) → (owner j a s).0 ≡ (owner k b t).0 → (s.2.member ≡ t.2.member) × (s.0.id.«package» ≡ t.0.id.«package»)
+  one_owner j k a b s t e =
+      let same : s.2.member ≡ t.2.member = some_same s.2.member t.2.member (sym (owner j a s).1 ∙ ap (slice_get (owners space)) e ∙ (owner k b t).1) in
+      (same, sym (owner j a s).2 ∙ ap (λ (p : Package). p.name) same ∙ (owner k b t).2)
 
   -- of one name
   one_task : (j k : ℕ) (a b : Part) (s : Stands j a) (t : Stands k b) → s.0.id.«package» ≡ t.0.id.«package» → s.0.id.task ≡ t.0.id.task → j ≡ k
   one_task j k a b s t p q = all_differ wanted j k s.0 t.0 can.ids s.1 t.1 (λ i. record { «package» = p i; task = q i })
 
-  declared_mine : (j : ℕ) (a : Part) (s : Stands j a) (path : Path) → takes a.outs path ≡ true → declares s.2.def.outputs s.2.member.folder path ≡ true
+  abbrev Declares : Part → Path → Type 0
+  Declares a path = declares a.outs.mine a.outs.folder path ≡ true
+
+  -- what a part declares, its outputs as written declare, and its owner is the path's home
+  declared_mine : (j : ℕ) (a : Part) (s : Stands j a) (path : Path) → Declares a path → (declares s.2.def.outputs s.2.member.folder path ≡ true) × (is_home (owners space) s.2.member path ≡ true)
+  declared_mine j a s path e =
+      own space can.apart can.below_root lists can.folders (owner j a s).0 s.2.member s.2.def.outputs path (owner j a s).1 (ap (λ (o : OutSet). declares o.mine o.folder path) (sym s.2.outs) ∙ e)
+
+  taken : (j : ℕ) (path : Path) → takes (part_at l j).outs path ≡ true → Declares (part_at l j) path
   unfolding takes
-  declared_mine j a s path e = (and_parts (declares s.2.def.outputs s.2.member.folder path) _ (ap (λ o. takes o path) (sym s.2.outs) ∙ e)).0
+  taken j path e = (and_parts (declares (part_at l j).outs.mine (part_at l j).outs.folder path) _ e).0
+
+  -- two parts that declare one path have one owner
+  meet : (j k : ℕ) (a b : Part) (s : Stands j a) (t : Stands k b) (path : Path) → Declares a path → Declares b path → (s.2.member ≡ t.2.member) × (s.0.id.«package» ≡ t.0.id.«package»)
+  meet j k a b s t path e f =
+      one_owner j k a b s t (one_home space can.apart can.below_root (owner j a s).0 (owner k b t).0 s.2.member t.2.member path (owner j a s).1 (owner k b t).1 (declared_mine j a s path e).1 (declared_mine k b t path f).1)
 
   script_own : (j : ℕ) (a : Part) (s : Stands j a) → has_script a ≡ true → is_some (text_by s.0.id.task s.2.member.manifest.scripts) ≡ true
   script_own j a s e = own_script s.2.member.manifest.scripts s.0.id.task (ap (λ x. not (is_nil x)) (sym s.2.scripts) ∙ e)
@@ -244,21 +187,18 @@ module _ (definitions : DefinitionLaw) (logs : LogLaw) (setup : Setup) (space : 
     t : Stands k (part_at l k)
     t = with_script k has_k
 
-    mine : declares s.2.def.outputs s.2.member.folder path ≡ true
-    mine = declared_mine j (part_at l j) s path owned
-
     not_true : (b : Bool) → not b ≡ true → b ≡ false
     not_true true f = absurd (false≢true f)
     not_true false f = refl
 
     alone : any_declares (others_than s.0.id.task (configured setup s.2.member)) s.2.member.folder path ≡ false
-    alone = not_true _ (and_right (declares s.2.def.outputs s.2.member.folder path) _ (ap (λ o. takes o path) (sym s.2.outs) ∙ owned))
+    alone = not_true _ (and_right (declares (s.2.def.outputs ++ exclusions_for space s.2.member) s.2.member.folder path) _ (ap (λ o. takes o path) (sym s.2.outs) ∙ owned))
 
     by : (b : Bool) → declares (part_at l k).outs.mine (part_at l k).outs.folder path ≡ b → b ≡ false
     by false e = refl
-    by true e = absurd (elim (two_parts j k (part_at l j) (part_at l k) s t) [ inl one ↦ together one.0 one.1 | inr apart ↦ declared_apart s.2.def.outputs t.2.def.outputs s.2.member.folder t.2.member.folder path mine theirs apart ]) where
+    by true e = absurd (let one = meet j k (part_at l j) (part_at l k) s t path (taken j path owned) e in together one.0 one.1) where
       theirs : declares t.2.def.outputs t.2.member.folder path ≡ true
-      theirs = ap (λ (o : OutSet). declares o.mine o.folder path) (sym t.2.outs) ∙ e
+      theirs = (declared_mine k (part_at l k) t path e).0
 
       together : s.2.member ≡ t.2.member → s.0.id.«package» ≡ t.0.id.«package» → ⊥
       together same packages =
@@ -270,46 +210,59 @@ module _ (definitions : DefinitionLaw) (logs : LogLaw) (setup : Setup) (space : 
           false≢true (sym alone ∙ sym (others_any s.0.id.task s.2.member.folder path (configured setup s.2.member)) ∙ here)
 
   -- what a task with a script declares, its home declares
-  home_declares : (j : ℕ) (has_j : has_script (part_at l j) ≡ true) (path : Path) → takes (part_at l j).outs path ≡ true → is_declared setup space.packages path ≡ true
+  home_declares : (j : ℕ) → has_script (part_at l j) ≡ true → (path : Path) → takes (part_at l j).outs path ≡ true → is_declared setup (owners space) path ≡ true
   unfolding declared_in
   home_declares j has_j path owned =
       let s = with_script j has_j in
-      let mine = declared_mine j (part_at l j) s path owned in
-      let place = place_of space.packages s.0.id.«package» s.2.member s.2.stands in
-      let below = lies s.2.def.outputs s.2.member.folder path mine in
-      let any = configured_any setup s.2.member.name s.0.id.task s.2.def (λ c. declares c.outputs s.2.member.folder path) s.2.member.manifest.scripts s.2.defined (script_own j (part_at l j) s has_j) mine in
-      homes space.packages place.0 s.2.member place.1 (both _ _ below any)
+      let mine = declared_mine j (part_at l j) s path (taken j path owned) in
+      let place = owner j (part_at l j) s in
+      let any = configured_any setup s.2.member.name s.0.id.task s.2.def (λ c. declares c.outputs s.2.member.folder path) s.2.member.manifest.scripts s.2.defined (script_own j (part_at l j) s has_j) mine.0 in
+      let holds : declares_in (map (λ (p : Package). p.folder) (owners space)) path (home_of setup s.2.member) ≡ true = both_true _ _ mine.1 any in
+      ap (λ folders. list_any (declares_in folders path) (map (home_of setup) (owners space))) (folders_same (owners space))
+      ∙ any_from (declares_in (map (λ (p : Package). p.folder) (owners space)) path) (map (home_of setup) (owners space)) place.0 (home_of setup s.2.member) (get_map (home_of setup) (owners space) place.0 s.2.member place.1) holds
     where
-      both : (a b : Bool) → a ≡ true → b ≡ true → (a && b) ≡ true
-      both true b e f = f
-      both false b e f = e
+      folders_same : (members : List Package) → folders_of (map (home_of setup) members) ≡ map (λ (p : Package). p.folder) members
+      folders_same [] = refl
+      folders_same (p ∷ members) = ap (λ fs. p.folder ∷ fs) (folders_same members)
 
-      lies : (outputs : List (List ℕ)) (folder path : Path) → declares outputs folder path ≡ true → lies_below path folder ≡ true
-      lies outputs folder path e = let d = declared_rest outputs folder path e in ap is_proper d.1 ∙ some d.0 d.2 where
-        some : (rest : Path) → may_declare rest ≡ true → is_proper (Some rest) ≡ true
-        some [] f = absurd (false≢true f)
-        some (x ∷ rest) f = refl
+  -- below the owner of another part, what no task may declare there, and lies below no package where that owner is the root
+  below_one : (j k : ℕ) (has_j : has_script (part_at l j) ≡ true) (b : Part) (t : Stands k b) (name : List ℕ) (names : Path) → may_declare (name ∷ names) ≡ false
+      → ((i : ℕ) (p : Package) → slice_get space.packages i ≡ Some p → lies_below (name ∷ names) p.folder ≡ false) → declares (part_at l j).outs.mine (part_at l j).outs.folder (t.2.member.folder ++ name ∷ names) ≡ false
+  below_one j k has_j b t name names bad far = by (declares (part_at l j).outs.mine (part_at l j).outs.folder path) refl where
+    path : Path
+    path = t.2.member.folder ++ name ∷ names
 
-      homes : (packages : List Package) (i : ℕ) (m : Package) → slice_get packages i ≡ Some m → declares_in path (home_of setup m) ≡ true → list_any (declares_in path) (map (home_of setup) packages) ≡ true
-      homes [] i m at e = cc
-      homes (p ∷ packages) zero m at e = or_left _ _ (ap (λ x. declares_in path (home_of setup x)) (some_same p m at) ∙ e)
-      homes (p ∷ packages) (suc i) m at e = or_right _ _ (homes packages i m at e)
-
-  -- a path whose last part below the folder may not be declared
-  below_one : (j k : ℕ) (has_j : has_script (part_at l j) ≡ true) (b : Part) (t : Stands k b) (rest : Path) → may_declare rest ≡ false → declares (part_at l j).outs.mine (part_at l j).outs.folder (t.2.member.folder ++ rest) ≡ false
-  below_one j k has_j b t rest bad = by (declares (part_at l j).outs.mine (part_at l j).outs.folder (t.2.member.folder ++ rest)) refl where
     s : Stands j (part_at l j)
     s = with_script j has_j
 
-    by : (c : Bool) → declares (part_at l j).outs.mine (part_at l j).outs.folder (t.2.member.folder ++ rest) ≡ c → c ≡ false
+    here : lies_below path t.2.member.folder ≡ true
+    here = ap is_proper (strip_append t.2.member.folder (name ∷ names))
+
+    by : (c : Bool) → declares (part_at l j).outs.mine (part_at l j).outs.folder path ≡ c → c ≡ false
     by false e = refl
-    by true e = absurd (elim (two_parts j k (part_at l j) b s t) [
-      | inl one ↦ false≢true (sym (none_declared s.2.def.outputs t.2.member.folder rest bad) ∙ ap (λ (m : Package). declares s.2.def.outputs m.folder (t.2.member.folder ++ rest)) (sym one.0) ∙ mine)
-      | inr apart ↦ let d = declared_rest s.2.def.outputs s.2.member.folder (t.2.member.folder ++ rest) mine in
-          clash s.2.member.folder t.2.member.folder (t.2.member.folder ++ rest) d.0 rest d.1 (strip_append t.2.member.folder rest) apart.0 apart.1
+    by true e = absurd (elim (package_or_root space can.apart can.below_root n.0 t.2.member n.1) [
+      | inl inner ↦ same (one_home space can.apart can.below_root i.0 n.0 s.2.member t.2.member path i.1 n.1 mine.1 (package_home space can.apart can.below_root n.0 t.2.member path inner here))
+      | inr root ↦ elim (package_or_root space can.apart can.below_root i.0 s.2.member i.1) [
+        | inl inner ↦
+            let short : path ≡ name ∷ names = ap (λ (p : Package). p.folder ++ name ∷ names) root in
+            false≢true (sym (far i.0 s.2.member inner) ∙ ap (λ p. lies_below p s.2.member.folder) (sym short) ∙ declared_below s.2.def.outputs s.2.member.folder path mine.0)
+        | inr also ↦ same_member (also ∙ sym root)
+      ]
     ]) where
-      mine : declares s.2.def.outputs s.2.member.folder (t.2.member.folder ++ rest) ≡ true
-      mine = ap (λ (o : OutSet). declares o.mine o.folder (t.2.member.folder ++ rest)) (sym s.2.outs) ∙ e
+      i : (p : ℕ) × (slice_get (owners space) p ≡ Some s.2.member) × (s.2.member.name ≡ s.0.id.«package»)
+      i = owner j (part_at l j) s
+
+      n : (p : ℕ) × (slice_get (owners space) p ≡ Some t.2.member) × (t.2.member.name ≡ t.0.id.«package»)
+      n = owner k b t
+
+      mine : (declares s.2.def.outputs s.2.member.folder path ≡ true) × (is_home (owners space) s.2.member path ≡ true)
+      mine = declared_mine j (part_at l j) s path e
+
+      same_member : s.2.member ≡ t.2.member → ⊥
+      same_member m = false≢true (sym (none_declared s.2.def.outputs t.2.member.folder (name ∷ names) bad) ∙ ap (λ (p : Package). declares s.2.def.outputs p.folder path) (sym m) ∙ mine.0)
+
+      same : i.0 ≡ n.0 → ⊥
+      same x = same_member (one_owner j k (part_at l j) b s t x).0
 
   takes_none : (set : OutSet) (path : Path) → declares set.mine set.folder path ≡ false → takes set path ≡ false
   unfolding takes
@@ -319,6 +272,9 @@ module _ (definitions : DefinitionLaw) (logs : LogLaw) (setup : Setup) (space : 
   unfolding shares
   shares_none set path e = ap (λ b. b && any_declares set.others set.folder path) e
 
+  inner : (i : ℕ) (p : Package) → slice_get space.packages i ≡ Some p → p.folder ≢ []
+  inner = inner_at space can.apart can.below_root
+
   -- no input is owned
   no_input : (j : ℕ) → has_script (part_at l j) ≡ true → (path : Path) → takes (part_at l j).outs path ≡ true → names l.parts path ≡ false
   unfolding is_input
@@ -326,22 +282,22 @@ module _ (definitions : DefinitionLaw) (logs : LogLaw) (setup : Setup) (space : 
     by : (b : Bool) → names l.parts path ≡ b → b ≡ false
     by false e = refl
     by true e = absurd (let n = naming setup space lock files walk env wanted l can is path e in asked n.0 n.2 (n.1, n.4, n.3) (and_right (has files path) _ n.6)) where
-      asked : (k : ℕ) (part : Part) (t : Stands k part) → is_input (is_left_out setup space.packages files walk) setup space.packages t.2.member t.2.def path ≡ true → ⊥
+      asked : (k : ℕ) (part : Part) (t : Stands k part) → is_input (is_left_out setup (owners space) files walk) setup (owners space) t.2.member t.2.def path ≡ true → ⊥
       asked k part t f = by_kind (path_eq path (manifest_in t.2.member.folder)) refl (path_eq path (config_in t.2.member.folder)) refl f where
-        s : Stands j (part_at l j)
-        s = with_script j has_j
-
         -- the path is one that may not be declared
         kept : (name : List ℕ) → may_declare (name ∷ []) ≡ false → path_eq path (t.2.member.folder ++ name ∷ []) ≡ true → ⊥
         kept name bad same =
-            let none : takes (part_at l j).outs (t.2.member.folder ++ name ∷ []) ≡ false = takes_none (part_at l j).outs (t.2.member.folder ++ name ∷ []) (below_one j k has_j part t (name ∷ []) bad) in
+            let none : takes (part_at l j).outs (t.2.member.folder ++ name ∷ []) ≡ false = takes_none (part_at l j).outs (t.2.member.folder ++ name ∷ []) (below_one j k has_j part t name [] bad (λ i p at. one_name name p.folder (inner i p at))) in
             false≢true (sym none ∙ ap (takes (part_at l j).outs) (sym (path_same path (t.2.member.folder ++ name ∷ []) same)) ∙ owned)
 
+        asks : Bool
+        asks = is_asked (is_left_out setup (owners space) files walk) (owners space) t.2.member t.2.def.inputs path || is_global setup path
+
         by_kind : (a : Bool) → path_eq path (manifest_in t.2.member.folder) ≡ a → (b : Bool) → path_eq path (config_in t.2.member.folder) ≡ b
-            → ((a || b) || ((not (is_declared setup space.packages path) && not (is_manifest space.packages path)) && (is_asked (is_left_out setup space.packages files walk) t.2.member t.2.def.inputs path || is_global setup path))) ≡ true → ⊥
+            → ((a || b) || ((not (is_declared setup (owners space) path) && not (is_manifest (owners space) path)) && asks)) ≡ true → ⊥
         by_kind true g b h i = kept manifest_name refl g
         by_kind false g true h i = kept (codes "turbo.json") refl h
-        by_kind false g false h i = false≢true (sym (ap (λ d. (not d && not (is_manifest space.packages path)) && (is_asked (is_left_out setup space.packages files walk) t.2.member t.2.def.inputs path || is_global setup path)) (home_declares j has_j path owned)) ∙ i)
+        by_kind false g false h i = false≢true (sym (ap (λ d. (not d && not (is_manifest (owners space) path)) && asks) (home_declares j has_j path owned)) ∙ i)
 
   log_named : (part : Part) → names l.parts (log_path part) ≡ false
   log_named part = by (names l.parts (log_path part)) refl where
@@ -352,36 +308,36 @@ module _ (definitions : DefinitionLaw) (logs : LogLaw) (setup : Setup) (space : 
   log_declared : (j k : ℕ) → has_script (part_at l j) ≡ true → has_script (part_at l k) ≡ true → declares (part_at l j).outs.mine (part_at l j).outs.folder (log_path (part_at l k)) ≡ false
   log_declared j k has_j has_k =
       let t = with_script k has_k in
-      ap (λ folder. declares (part_at l j).outs.mine (part_at l j).outs.folder (folder ++ codes ".turbo" ∷ log_name (part_at l k).task ∷ [])) t.2.folder
-      ∙ below_one j k has_j (part_at l k) t (codes ".turbo" ∷ log_name (part_at l k).task ∷ []) refl
+      let name = log_name (part_at l k).task in
+      ap (λ folder. declares (part_at l j).outs.mine (part_at l j).outs.folder (folder ++ codes ".turbo" ∷ name ∷ [])) t.2.folder
+      ∙ below_one j k has_j (part_at l k) t (codes ".turbo") (name ∷ []) refl (λ i p at. not_kept walk can.outside name p.folder (inner i p at) (all_get (λ (q : Package). is_among walk (manifest_in q.folder) ≡ true) space.packages i p at can.walked))
 
   logs_differ : (j k : ℕ) → j ≢ k → has_script (part_at l j) ≡ true → has_script (part_at l k) ≡ true → log_path (part_at l j) ≢ log_path (part_at l k)
-  logs_differ j k ne has_j has_k e = elim (two_parts j k (part_at l j) (part_at l k) s t) [
-    | inl one ↦ ne (one_task j k (part_at l j) (part_at l k) s t one.1 tasks)
-    | inr apart ↦ inside s.2.member.folder t.2.member.folder folders apart.0
-  ] where
-    s : Stands j (part_at l j)
-    s = with_script j has_j
+  logs_differ j k ne has_j has_k e =
+      ne (one_task j k (part_at l j) (part_at l k) s t (one_owner j k (part_at l j) (part_at l k) s t (one_folder space can.apart can.below_root i.0 n.0 s.2.member t.2.member i.1 n.1 folders)).1 tasks)
+    where
+      s : Stands j (part_at l j)
+      s = with_script j has_j
 
-    t : Stands k (part_at l k)
-    t = with_script k has_k
+      t : Stands k (part_at l k)
+      t = with_script k has_k
 
-    same : ((part_at l j).folder ≡ (part_at l k).folder) × ((part_at l j).task ≡ (part_at l k).task)
-    same = logs (part_at l j) (part_at l k)
-        (ap has_dollar s.2.task ∙ no_dollar s.0.id.task (definitions setup s.2.member.name s.0.id.task s.2.def s.2.defined))
-        (ap has_dollar t.2.task ∙ no_dollar t.0.id.task (definitions setup t.2.member.name t.0.id.task t.2.def t.2.defined)) e
+      i : (p : ℕ) × (slice_get (owners space) p ≡ Some s.2.member) × (s.2.member.name ≡ s.0.id.«package»)
+      i = owner j (part_at l j) s
 
-    tasks : s.0.id.task ≡ t.0.id.task
-    tasks = sym s.2.task ∙ same.1 ∙ t.2.task
+      n : (p : ℕ) × (slice_get (owners space) p ≡ Some t.2.member) × (t.2.member.name ≡ t.0.id.«package»)
+      n = owner k (part_at l k) t
 
-    folders : s.2.member.folder ≡ t.2.member.folder
-    folders = sym s.2.folder ∙ same.0 ∙ t.2.folder
+      same : ((part_at l j).folder ≡ (part_at l k).folder) × ((part_at l j).task ≡ (part_at l k).task)
+      same = logs (part_at l j) (part_at l k)
+          (ap has_dollar s.2.task ∙ no_dollar s.0.id.task (definitions setup s.2.member.name s.0.id.task s.2.def s.2.defined))
+          (ap has_dollar t.2.task ∙ no_dollar t.0.id.task (definitions setup t.2.member.name t.0.id.task t.2.def t.2.defined)) e
 
-    inside : (a b : Path) → a ≡ b → strip a b ≡ None → ⊥
-    inside a b f none = let self : strip a b ≡ Some [] = ap (strip a) (sym f) ∙ strip_self a in cc where
-      strip_self : (p : Path) → strip p p ≡ Some []
-      strip_self [] = refl
-      strip_self (x ∷ p) = ap (λ v. cond v (strip p p) None) (name_self x) ∙ strip_self p
+      tasks : s.0.id.task ≡ t.0.id.task
+      tasks = sym s.2.task ∙ same.1 ∙ t.2.task
+
+      folders : s.2.member.folder ≡ t.2.member.folder
+      folders = sym s.2.folder ∙ same.0 ∙ t.2.folder
 
   one_place : (j k : ℕ) → j < length l.parts → k < length l.parts → (part_at l j).«package» ≡ (part_at l k).«package» → (part_at l j).task ≡ (part_at l k).task → j ≡ k
   one_place j k in_j in_k packages tasks =
@@ -411,5 +367,5 @@ module _ (definitions : DefinitionLaw) (logs : LogLaw) (setup : Setup) (space : 
     inputs = holds_inputs setup space lock files walk env wanted l can is;
   }
 
-pub listing_sound : DefinitionLaw → LogLaw → ListingLaw
-listing_sound definitions logs = λ setup space lock files walk env wanted l can is. is_sound definitions logs setup space lock files walk env wanted l can is
+pub listing_sound : DefinitionLaw → LogLaw → ListLaw → ListingLaw
+listing_sound definitions logs lists = λ setup space lock files walk env wanted l can is. is_sound definitions logs lists setup space lock files walk env wanted l can is

@@ -16,7 +16,7 @@ use Rattle.collect.specs.Listings.{with_bytes}
 use Rattle.collect.specs.Steps.{folder_of, rules_file}
 use Rattle.collect.proofs.Readings.{folder_above}
 
-append_none : {X : Type 0} (xs : List X) → xs ++ [] ≡ xs
+pub append_none : {X : Type 0} (xs : List X) → xs ++ [] ≡ xs
 append_none [] = refl
 append_none (x ∷ xs) = ap (λ ys. x ∷ ys) (append_none xs)
 

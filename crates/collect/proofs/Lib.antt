@@ -10,4 +10,6 @@ mod IgnoreRules
 mod Whole
 mod Found
 mod Order
+mod Ascending
+mod Owners
 mod Apart

@@ -125,3 +125,11 @@ list_at P (x ∷ xs) each = (each 0 x refl, list_at P xs (λ i y e. each (suc i)
 pub all_map : {X Y : Type 0} (P : Y → Type 0) (f : X → Y) (xs : List X) → ((x : X) → P (f x)) → AllByRecursion P (map f xs)
 all_map P f [] each = tt
 all_map P f (x ∷ xs) each = (each x, all_map P f xs each)
+
+pub all_to_map : {X Y : Type 0} (P : Y → Type 0) (f : X → Y) (xs : List X) → AllByRecursion (λ x. P (f x)) xs → AllByRecursion P (map f xs)
+all_to_map P f [] all = tt
+all_to_map P f (x ∷ xs) all = (all.0, all_to_map P f xs all.1)
+
+pub all_from_map : {X Y : Type 0} (P : Y → Type 0) (f : X → Y) (xs : List X) → AllByRecursion P (map f xs) → AllByRecursion (λ x. P (f x)) xs
+all_from_map P f [] all = tt
+all_from_map P f (x ∷ xs) all = (all.0, all_from_map P f xs all.1)

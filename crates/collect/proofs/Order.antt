@@ -12,7 +12,7 @@ use Rattle.rel_path.specs.Paths.{Path, path_eq, path_cmp, is_among}
 use Rattle.rel_path.specs.Files.{FileMap, file_at, has}
 use Rattle.rel_path.proofs.PathLaws.{path_same}
 use Rattle.spawn_dev.specs.Orders.{IsAscending, IsBefore, AscendByPath}
-use Rattle.workspaces.specs.Space.{Space}
+use Rattle.workspaces.specs.Space.{Space, owner_named}
 use Rattle.turbo_config.specs.Setup.{Setup}
 use Rattle.listing.specs.declared.part.Part.{Part}
 use Rattle.listing.specs.declared.part.Listing.{Listing}
@@ -20,7 +20,6 @@ use Rattle.run_laws.specs.Ancestors.{blank}
 use Rattle.run_laws.specs.Closures.{names}
 use Rattle.run_laws.specs.Valid.{IsOrderedPart, IsOrdered}
 use Rattle.collect.specs.declared.wanted.Wanted.{Wanted}
-use Rattle.collect.specs.Tasks.{package_named}
 use Rattle.collect.specs.Parts.{IsPart, takes_input}
 use Rattle.collect.specs.Listings.{ArePaired, with_bytes, takes_in, takes_by, is_needed, needed, IsListing}
 use Rattle.collect.specs.Laws.{CanBeListed, HoldsInputs}
@@ -92,7 +91,7 @@ same_deps R deps (w ∷ wanted) [] i p = absurd p
 same_deps R deps (w ∷ wanted) (part ∷ parts) zero p = deps w part p.0
 same_deps R deps (w ∷ wanted) (part ∷ parts) (suc i) p = same_deps R deps wanted parts i p.1
 
-module _ (setup : Setup) (space : Space) (lock : Option Data) (files : FileMap) (walk : List Path) (env : List (List ℕ × List ℕ)) (wanted : List Wanted) (l : Listing) (can : CanBeListed space.packages walk wanted) (is : IsListing setup space lock files walk env wanted l) where
+module _ (setup : Setup) (space : Space) (lock : Option Data) (files : FileMap) (walk : List Path) (env : List (List ℕ × List ℕ)) (wanted : List Wanted) (l : Listing) (can : CanBeListed space walk wanted) (is : IsListing setup space lock files walk env wanted l) where
   -- an input of a part is a walked file that its task takes
   pub naming : (path : Path) → names l.parts path ≡ true
       → (i : ℕ) × (w : Wanted) × (part : Part) × (r : IsPart setup space lock files walk env w part) × (slice_get wanted i ≡ Some w) × (is_among walk path ≡ true) × (takes_input setup space files walk r.member r.def path ≡ true)
@@ -107,9 +106,9 @@ module _ (setup : Setup) (space : Space) (lock : Option Data) (files : FileMap) 
   unfolding needed
   among_needed path e =
       let n = naming path e in
-      let takes : takes_in (takes_input setup space files walk) setup n.1 path (package_named space.packages n.1.id.«package») ≡ true =
+      let takes : takes_in (takes_input setup space files walk) setup n.1 path (owner_named space n.1.id.«package») ≡ true =
       ap (λ o. takes_in (takes_input setup space files walk) setup n.1 path o) n.3.stands ∙ ap (λ o. takes_by (takes_input setup space files walk) path n.3.member o) n.3.defined ∙ n.6 in
-      among_filter (is_needed setup space files walk wanted) walk path n.5 (any_from (λ (w : Wanted). takes_in (takes_input setup space files walk) setup w path (package_named space.packages w.id.«package»)) wanted n.0 n.1 n.4 takes)
+      among_filter (is_needed setup space files walk wanted) walk path n.5 (any_from (λ (w : Wanted). takes_in (takes_input setup space files walk) setup w path (owner_named space w.id.«package»)) wanted n.0 n.1 n.4 takes)
 
   file_there : (path : Path) → names l.parts path ≡ true → file_at l.files path ≡ files path
   file_there path e = ap (λ fs. file_at fs path) is.files_are ∙ file_known files (needed setup space files walk wanted) path ∙ ap (λ b. cond b (files path) None) (among_needed path e)
@@ -123,7 +122,7 @@ module _ (setup : Setup) (space : Space) (lock : Option Data) (files : FileMap) 
   -- what some task takes is an input of its part
   named_part : (path : Path) → is_among walk path ≡ true → is_needed setup space files walk wanted path ≡ true → names l.parts path ≡ true
   named_part path among e =
-      let found = any_found (λ (w : Wanted). takes_in (takes_input setup space files walk) setup w path (package_named space.packages w.id.«package»)) wanted e in
+      let found = any_found (λ (w : Wanted). takes_in (takes_input setup space files walk) setup w path (owner_named space w.id.«package»)) wanted e in
       let part = paired_at (IsPart setup space lock files walk env) wanted l.parts found.0 found.1 is.parts found.2 in
       let r = part.2 in
       let takes : takes_input setup space files walk r.member r.def path ≡ true =

@@ -24,7 +24,7 @@ places_below test (x ∷ xs) = by (test x) (shifted (places test xs) (places_bel
   by false all = all
 
 pub row_below : (ignored : Path → Bool) (setup : Setup) (packages : List Package) (walk : List Path) (t : DefinedTask) → AllByRecursion (λ k. k < length walk) (input_row ignored setup packages walk t)
-row_below ignored setup packages walk t = by (slice_get packages t.«package») where
+row_below ignored setup packages walk t = by (slice_get packages t.owner) where
   by : (o : Option Package) → AllByRecursion (λ k. k < length walk) (row_of ignored setup packages walk t.def o)
   by None = tt
   by (Some p) = places_below (is_input ignored setup packages p t.def) walk

@@ -6,12 +6,11 @@ use Rattle.serde_json.specs.Data.{Data}
 use Rattle.rel_path.specs.Paths.{Path}
 use Rattle.rel_path.specs.Files.{FileMap}
 use Rattle.workspaces.specs.declared.member.Package.{Package}
-use Rattle.workspaces.specs.Space.{Space}
+use Rattle.workspaces.specs.Space.{Space, owner_named}
 use Rattle.turbo_config.specs.declared.entry.TaskDef.{TaskDef}
 use Rattle.turbo_config.specs.Setup.{Setup, task_def}
 use Rattle.listing.specs.declared.part.Listing.{Listing}
 use Rattle.collect.specs.declared.wanted.Wanted.{Wanted}
-use Rattle.collect.specs.Tasks.{package_named}
 use Rattle.collect.specs.Parts.{IsPart, takes_input}
 
 -- one for one, in order
@@ -33,7 +32,7 @@ takes_in takes setup w path (Some p) = takes_by takes path p (task_def setup p.n
 
 -- some wanted task takes the file
 abbrev pub is_needed : Setup → Space → FileMap → List Path → List Wanted → Path → Bool
-is_needed setup space files walk wanted path = list_any (λ w. takes_in (takes_input setup space files walk) setup w path (package_named space.packages w.id.«package»)) wanted
+is_needed setup space files walk wanted path = list_any (λ w. takes_in (takes_input setup space files walk) setup w path (owner_named space w.id.«package»)) wanted
 
 -- the walked files that some wanted task takes
 unfoldable pub needed : Setup → Space → FileMap → List Path → List Wanted → List Path

@@ -8,42 +8,39 @@ use Rattle.rel_path.specs.Limits.{file_limit, sum_limit}
 use Rattle.npm_lock.specs.declared.error.ExtErr.TheVariants.{Missing as missing_name}
 use Rattle.npm_lock.specs.Externals.{Externals}
 use Rattle.workspaces.specs.declared.member.Package.{Package}
-use Rattle.workspaces.specs.Space.{Space}
+use Rattle.workspaces.specs.Space.{Space, owners, owner_named}
 use Rattle.turbo_config.specs.Setup.{Setup}
 use Rattle.listing.specs.declared.part.Listing.{Listing}
 use Rattle.task_inputs.specs.Ignores.{rule_files}
 use Rattle.collect.specs.declared.wanted.Wanted.{Wanted}
 use Rattle.collect.specs.declared.error.CollectErr.{CollectErr}
 use Rattle.collect.specs.declared.error.CollectErr.TheVariants.{Missing, TooLarge, TooMuch, Failed, OutOfMemory}
-use Rattle.collect.specs.Tasks.{package_named}
 use Rattle.collect.specs.Parts.{starts_of, Uses}
 use Rattle.collect.specs.Listings.{needed, with_bytes, IsListing}
 
--- ---- limits
-
 -- ---- refusals
 
--- each name that the package of the task has to find is found
+-- each name that the owner of the task has to find is found
 pub record FindsAll (space : Space) (lock : Option Data) (wanted : Wanted) : Type 0 where
   pub member : Package
-  pub stands : package_named space.packages wanted.id.«package» ≡ Some member
+  pub stands : owner_named space wanted.id.«package» ≡ Some member
   pub pairs : List (List ℕ × List ℕ)
   pub uses : Uses space lock member pairs
 
--- a name that the package has to find, and does not; the least of several
+-- a name that the owner has to find, and does not; the least of several
 pub record IsMissingOf (space : Space) (lock : Option Data) (member : Package) (from name : List ℕ) : Type 0 where
   pub lockfile : Data
   pub there : lock ≡ Some lockfile
   pub missing : Externals lockfile (starts_of space member) (Err (missing_name from name))
 
--- of the packages of the wanted tasks, in order, one is the first that misses a name
+-- of the owners of the wanted tasks, in order, one is the first that misses a name
 pub record IsFirstMissing (space : Space) (lock : Option Data) (all : List Wanted) (from name : List ℕ) : Type 0 where
   pub place : ℕ
   pub wanted : Wanted
   pub stands : slice_get all place ≡ Some wanted
   pub found : AllByRecursion (FindsAll space lock) (take place all)
   pub member : Package
-  pub is_its : package_named space.packages wanted.id.«package» ≡ Some member
+  pub is_its : owner_named space wanted.id.«package» ≡ Some member
   pub misses : IsMissingOf space lock member from name
 
 abbrev pub is_large : Option (List ℕ) → Bool
@@ -56,7 +53,7 @@ first_large files paths = find (λ path. is_large (files path)) paths
 
 -- the least ignore file that counts and is over the limit, or else the least such input
 unfoldable pub large_file : Setup → Space → FileMap → List Path → List Wanted → Option Path
-large_file setup space files walk wanted = first_large files (rule_files setup space.packages walk ++ needed setup space files walk wanted)
+large_file setup space files walk wanted = first_large files (rule_files setup (owners space) walk ++ needed setup space files walk wanted)
 
 -- the bytes of all input files together
 unfoldable pub total_bytes : Setup → Space → FileMap → List Path → List Wanted → ℕ

@@ -1,5 +1,5 @@
 -- What the steps of collecting a listing answer.
-use Rattle.std.specs.Prelude.{◌≡◌, ◌≤◌, ◌+◌, ◌==◌, ℕ, Bool, true, false, ◌&&◌, List, [], ◌∷◌, ◌++◌, length, map, filter, zip, get_or, take, sum_by, Option, Some, None, is_some, unwrap_or, Result, Ok, Err, IfErr, find, if◌then◌else◌}
+use Rattle.std.specs.Prelude.{◌≡◌, ◌<◌, ◌≤◌, ◌+◌, ◌==◌, ℕ, Bool, true, false, ◌&&◌, List, [], ◌∷◌, ◌++◌, length, map, filter, zip, get_or, take, sum_by, Option, Some, None, is_some, unwrap_or, Result, Ok, Err, IfErr, find, if◌then◌else◌}
 use Rattle.std.specs.Option.{option_map}
 use Rattle.std.specs.List.{AllByRecursion, HoldsAt, slice_get, slice_index_or, list_any, filter_map}
 use Rattle.serde_json.specs.Data.{Data}
@@ -10,7 +10,7 @@ use Rattle.env_select.specs.Choice.{is_hashed, IsChosen}
 use Rattle.ignore_rules.specs.declared.rule.Rule.{Rule}
 use Rattle.ignore_rules.specs.Rules.{rules_of}
 use Rattle.workspaces.specs.declared.member.Package.{Package}
-use Rattle.workspaces.specs.Space.{Space}
+use Rattle.workspaces.specs.Space.{Space, IsProper, owners, owner_named}
 use Rattle.turbo_config.specs.declared.entry.TaskDef.{TaskDef}
 use Rattle.turbo_config.specs.declared.task_id.TaskId.{TaskId}
 use Rattle.turbo_config.specs.Setup.{Setup, task_def}
@@ -25,8 +25,10 @@ use Rattle.collect.specs.declared.error.CollectErr.TheVariants.{Missing, TooLarg
 use Rattle.collect.specs.declared.reading.Gathered.{Gathered}
 use Rattle.collect.specs.declared.collecting.Plan.{Plan}
 use Rattle.collect.specs.declared.collecting.Rows.{Rows}
-use Rattle.collect.specs.Tasks.{package_named}
-use Rattle.collect.specs.Parts.{scripts_of, Uses}
+use Rattle.collect.specs.declared.parts.Source.{Source}
+use Rattle.collect.specs.declared.parts.Job.{Job}
+use Rattle.folder_globs.specs.Exclusions.{exclusion, IsFolder}
+use Rattle.collect.specs.Parts.{scripts_of, package_folders, texts_at, Uses}
 use Rattle.collect.specs.Listings.{ArePaired, with_bytes}
 use Rattle.collect.specs.Refusals.{is_large, first_large, IsMissingOf}
 use Rattle.rel_path.specs.Limits.{sum_limit}
@@ -36,16 +38,11 @@ OnlyMemory result = IfErr result (λ e. e ≡ OutOfMemory)
 
 -- ---- tasks
 
--- the place of the first package of this name
-abbrev pub IsNumber : List Package → List ℕ → Option ℕ → Type 0
-IsNumber packages name None = package_named packages name ≡ None
-IsNumber packages name (Some place) = package_named packages name ≡ slice_get packages place
-
--- the task by the number of its package and its definition
-pub record IsTaskOf (setup : Setup) (packages : List Package) (id : TaskId) (t : DefinedTask) : Type 0 where
+-- the task by the number of its owner and its definition
+pub record IsTaskOf (setup : Setup) (space : Space) (id : TaskId) (t : DefinedTask) : Type 0 where
   pub member : Package
-  pub stands : package_named packages id.«package» ≡ Some member
-  pub at : slice_get packages t.«package» ≡ Some member
+  pub stands : owner_named space id.«package» ≡ Some member
+  pub at : slice_get (owners space) t.owner ≡ Some member
   pub def : task_def setup member.name id.task ≡ Some t.def
 
 -- ---- installed packages
@@ -58,16 +55,16 @@ GivesUses space lock p (Err (TooMuch bytes)) = ⊥
 GivesUses space lock p (Err Failed) = ⊥
 GivesUses space lock p (Err OutOfMemory) = Unit {0}
 
--- the installed packages that the package of this number uses
+-- the installed packages that the owner of this number uses
 abbrev pub UsesAt : Space → Option Data → ℕ → List (List ℕ × List ℕ) → Type 0
-UsesAt space lock number pairs = HoldsAt (λ p. Uses space lock p pairs) space.packages number
+UsesAt space lock number pairs = HoldsAt (λ p. Uses space lock p pairs) (owners space) number
 
--- this is the least place of a task of the package, or there is none
+-- this is the least place of a task of the owner, or there is none
 abbrev pub IsEarlier : List DefinedTask → ℕ → Option ℕ → Type 0
 IsEarlier tasks number None = Unit {0}
-IsEarlier tasks number (Some place) = (t : DefinedTask) × (slice_get tasks place ≡ Some t) × (t.«package» ≡ number)
+IsEarlier tasks number (Some place) = (t : DefinedTask) × (slice_get tasks place ≡ Some t) × (t.owner ≡ number)
 
--- the package of this number finds each name
+-- the owner of this number finds each name
 abbrev pub FindsAt : Space → Option Data → ℕ → Type 0
 FindsAt space lock number = (pairs : List (List ℕ × List ℕ)) × UsesAt space lock number pairs
 
@@ -75,11 +72,11 @@ pub record MissesFirst (space : Space) (lock : Option Data) (tasks : List Define
   pub place : ℕ
   pub task : DefinedTask
   pub stands : slice_get tasks place ≡ Some task
-  pub found : AllByRecursion (λ t. FindsAt space lock t.«package») (take place tasks)
-  pub misses : HoldsAt (λ p. IsMissingOf space lock p from name) space.packages task.«package»
+  pub found : AllByRecursion (λ t. FindsAt space lock t.owner) (take place tasks)
+  pub misses : HoldsAt (λ p. IsMissingOf space lock p from name) (owners space) task.owner
 
 abbrev pub AllUses : {X : Type 0} → Space → Option Data → List DefinedTask → (X → List (List (List ℕ × List ℕ))) → Result X CollectErr → Type 0
-AllUses space lock tasks items (Ok uses) = ArePaired (λ t pairs. UsesAt space lock t.«package» pairs) tasks (items uses)
+AllUses space lock tasks items (Ok uses) = ArePaired (λ t pairs. UsesAt space lock t.owner pairs) tasks (items uses)
 AllUses space lock tasks items (Err (Missing from name)) = MissesFirst space lock tasks from name
 AllUses space lock tasks items (Err (TooLarge path)) = ⊥
 AllUses space lock tasks items (Err (TooMuch bytes)) = ⊥
@@ -200,29 +197,56 @@ in_row j row = list_any (λ d. d == j) row
 abbrev pub text_or_none : Option (List ℕ) → List ℕ
 text_or_none text = unwrap_or text []
 
-abbrev pub out_set_by : Path → Home → List ℕ → TaskDef → OutSet
-out_set_by folder home task def = record { folder = folder; mine = def.outputs; others = others_than task home.tasks }
+-- the output set of a task in the folder, with these texts behind its outputs where that is the root
+abbrev pub out_set_by : List (List ℕ) → Path → Home → List ℕ → TaskDef → OutSet
+out_set_by texts folder home task def = record {
+  folder = folder;
+  mine = def.outputs ++ texts_at texts folder;
+  others = others_than task home.tasks;
+}
 
 -- the paths at these places that were found
 abbrev pub inputs_at : List Path → List Bool → List ℕ → List Path
 inputs_at walk found row = map (λ k. get_or walk k []) (filter (λ k. marked found k) row)
 
 -- a part, by what it is made of
-pub record IsMade (packages : List Package) (homes : List Home) (globals : List (List ℕ)) (env : List (List ℕ × List ℕ)) (walk : List Path) (found : List Bool) (wanted : Wanted) (task : DefinedTask) (row : List ℕ) (uses : List (List ℕ × List ℕ)) (part : Part) : Type 0 where
+pub record IsMade (owners : List Package) (homes : List Home) (texts : List (List ℕ)) (globals : List (List ℕ)) (env : List (List ℕ × List ℕ)) (walk : List Path) (found : List Bool) (wanted : Wanted) (task : DefinedTask) (row : List ℕ) (uses : List (List ℕ × List ℕ)) (part : Part) : Type 0 where
   pub member : Package
-  pub at : slice_get packages task.«package» ≡ Some member
+  pub at : slice_get owners task.owner ≡ Some member
   pub home : Home
-  pub home_at : slice_get homes task.«package» ≡ Some home
+  pub home_at : slice_get homes task.owner ≡ Some home
   pub «package» : part.«package» ≡ wanted.id.«package»
   pub folder : part.folder ≡ member.folder
   pub task_is : part.task ≡ wanted.id.task
   pub scripts : part.scripts ≡ scripts_of member.manifest.scripts wanted.id.task
   pub args : part.args ≡ wanted.args
-  pub outs : part.outs ≡ out_set_by member.folder home wanted.id.task task.def
+  pub outs : part.outs ≡ out_set_by texts member.folder home wanted.id.task task.def
   pub env_pairs : IsChosen (is_hashed task.def.env globals) env part.env
   pub inputs : part.inputs ≡ inputs_at walk found row
   pub externals : part.externals ≡ uses
   pub deps : part.deps ≡ wanted.deps
+
+-- the same of what parts are made of
+abbrev pub IsMadeFrom : Source → Wanted → DefinedTask → List ℕ → List (List ℕ × List ℕ) → Part → Type 0
+IsMadeFrom source wanted task row uses part = IsMade (owners source.packages.now) source.declared.now source.exclusions.now source.globals.now source.env.now source.walk.now source.found.now wanted task row uses part
+
+-- a home for each owner, and a mark for each walked file
+pub record IsFitSource (source : Source) : Type 0 where
+  pub homes : length source.declared.now ≡ length (owners source.packages.now)
+  pub same : length source.found.now ≡ length source.walk.now
+
+-- the task's owner is there, and its places are those of walked files
+pub record IsFitJob (source : Source) (job : Job) : Type 0 where
+  pub number : job.task.now.owner < length (owners source.packages.now)
+  pub below : AllByRecursion (λ k. k < length source.walk.now) job.row.now
+
+-- a task, a row and uses for each wanted task; of so many owners that of the task is there, and the places are below the length of the walk
+pub record AreFit (count long : ℕ) (wanted : List Wanted) (tasks : List DefinedTask) (rows : List (List ℕ)) (uses : List (List (List ℕ × List ℕ))) : Type 0 where
+  pub numbers : AllByRecursion (λ t. t.owner < count) tasks
+  pub below : AllByRecursion (AllByRecursion (λ k. k < long)) rows
+  pub same_tasks : length tasks ≡ length wanted
+  pub same_rows : length rows ≡ length wanted
+  pub same_uses : length uses ≡ length wanted
 
 -- wanted tasks with what is known of each
 abbrev pub jobs : List Wanted → List DefinedTask → List (List ℕ) → List (List (List ℕ × List ℕ)) → List ((Wanted × DefinedTask) × (List ℕ × List (List ℕ × List ℕ)))
@@ -238,20 +262,24 @@ AreMade R wanted tasks rows uses parts = ArePaired (IsMadeOf R) (jobs wanted tas
 -- ---- the whole
 
 pub record IsPlan (setup : Setup) (space : Space) (lock : Option Data) (walk : List Path) (wanted : List Wanted) (plan : Plan) : Type 0 where
-  pub tasks : ArePaired (λ w t. IsTaskOf setup space.packages w.id t) wanted plan.tasks.items
-  pub uses : ArePaired (λ t pairs. UsesAt space lock t.«package» pairs) plan.tasks.items plan.uses.items
-  pub declared : plan.declared ≡ map (home_of setup) space.packages
-  pub rules : plan.rules ≡ rule_files setup space.packages walk
+  pub tasks : ArePaired (λ w t. IsTaskOf setup space w.id t) wanted plan.tasks.items
+  pub uses : ArePaired (λ t pairs. UsesAt space lock t.owner pairs) plan.tasks.items plan.uses.items
+  pub declared : plan.declared ≡ map (home_of setup) (owners space)
+  pub rules : plan.rules ≡ rule_files setup (owners space) walk
+  pub exclusions : plan.exclusions ≡ map exclusion (package_folders space)
+  pub globals : plan.globals ≡ setup.globals.env
+  pub folders : AllByRecursion (λ p. IsFolder p.folder) space.packages
+  pub proper : IsProper space
 
 abbrev pub Plans : Setup → Space → Option Data → List Path → List Wanted → Result Plan CollectErr → Type 0
 Plans setup space lock walk wanted (Ok plan) = IsPlan setup space lock walk wanted plan
-Plans setup space lock walk wanted (Err (Missing from name)) = (tasks : List DefinedTask) × ArePaired (λ w t. IsTaskOf setup space.packages w.id t) wanted tasks × MissesFirst space lock tasks from name
+Plans setup space lock walk wanted (Err (Missing from name)) = (tasks : List DefinedTask) × ArePaired (λ w t. IsTaskOf setup space w.id t) wanted tasks × MissesFirst space lock tasks from name
 Plans setup space lock walk wanted (Err (TooLarge path)) = ⊥
 Plans setup space lock walk wanted (Err (TooMuch total)) = ⊥
 Plans setup space lock walk wanted (Err Failed) = ⊥
 Plans setup space lock walk wanted (Err OutOfMemory) = Unit {0}
 
-pub record AreRows (setup : Setup) (packages : List Package) (walk : List Path) (ignored : Path → Bool) (tasks : List DefinedTask) (r : Rows) : Type 0 where
-  pub rows : r.rows.items ≡ map (input_row ignored setup packages walk) tasks
+pub record AreRows (setup : Setup) (owners : List Package) (walk : List Path) (ignored : Path → Bool) (tasks : List DefinedTask) (r : Rows) : Type 0 where
+  pub rows : r.rows.items ≡ map (input_row ignored setup owners walk) tasks
   pub same : length r.marks.items ≡ length walk
   pub marks : (j : ℕ) → marked r.marks.items j ≡ list_any (in_row j) r.rows.items

@@ -17,10 +17,10 @@ pub enum CollectErr {
     /// From the location in the lockfile nothing is found for the name, which is neither optional nor a peer.
     #[error("{} not found from {}", .name.as_str(), .from.as_str())]
     Missing { from: Text, name: Text },
-    /// This file is over 16 MiB.
+    /// This file is over 256 MiB.
     #[error("a file is too large")]
     TooLarge { path: RelPath },
-    /// The input files have this many bytes together, which is over 64 MiB.
+    /// The input files have this many bytes together, which is over 1 GiB.
     #[error("the input files have {bytes} bytes")]
     TooMuch { bytes: u64 },
     /// The tree failed.

@@ -7,5 +7,6 @@ pub fn listing_law()
     ensures { ListingLaw }
 {
     turbo_config::definition_law();
+    folder_globs::exclusion_law();
     run_laws::log_law();
 }

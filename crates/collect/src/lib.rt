@@ -7,6 +7,7 @@
 
 mod collecting;
 mod error;
+mod exclusions;
 mod laws;
 mod marks;
 mod parts;

@@ -23,7 +23,8 @@ fn no_marks(alloc: Global, count: usize) -> Result<Vec<bool>, CollectErr>
 fn mark_all(marks: &mut Vec<bool>, places: &[u32])
     requires { AllByRecursion (λ d. d < length marks.old.items) places.now }
     ensures len { length marks.new.items ≡ length marks.old.items }
-    ensures marked { (j : ℕ) → marked marks.new.items j ≡ (in_row j places.now || marked marks.old.items j) }
+    ensures marked { (j : ℕ) → marked marks.new.items j
+        ≡ (in_row j places.now || marked marks.old.items j) }
 {
     for place in places {
         marks[*place as usize] = true;
@@ -38,7 +39,8 @@ pub(crate) fn marks_of(
 ) -> Result<Vec<bool>, CollectErr>
     requires { AllByRecursion (AllByRecursion (λ d. d < count)) rows.now }
     ensures len { IfOk result (λ marks. length marks.items ≡ count) }
-    ensures marked { IfOk result (λ marks. (j : ℕ) → marked marks.items j ≡ list_any (in_row j) rows.now) }
+    ensures marked { IfOk result (λ marks. (j : ℕ)
+        → marked marks.items j ≡ list_any (in_row j) rows.now) }
     ensures memory { OnlyMemory result }
 {
     let mut marks = no_marks(alloc, count)?;

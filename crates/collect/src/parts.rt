@@ -1,37 +1,85 @@
 // The parts of a listing.
-ghost use Rattle.std.specs.Prelude.{◌≡◌, ◌<◌, length, map, filter, IfOk};
+ghost use Rattle.std.specs.Prelude.{◌≡◌, ◌<◌, ◌++◌, length, IfOk};
 ghost use Rattle.std.specs.List.{AllByRecursion, HoldsAt};
 ghost use Rattle.env_select.specs.Choice.{is_hashed, IsChosen};
-ghost use Rattle.collect.specs.Steps.{OnlyMemory, AreMade, IsMade, inputs_at, out_set_by};
+ghost use Rattle.workspaces.specs.Space.{owners};
+ghost use Rattle.collect.specs.Parts.{texts_at};
+ghost use Rattle.collect.specs.Steps.{OnlyMemory, AreFit, AreMade, IsMadeFrom, IsFitJob, IsFitSource, inputs_at, out_set_by};
 
 use crate::scripts::scripts_of;
 use crate::{CollectErr, Wanted};
 use env_select::{EnvList, hashed};
 use globs::{GlobList, OutSet};
 use listing::{Part, Parts};
-use rel_path::{Pairs, Paths, Places, RelPath, Text};
+use rel_path::{Pairs, Paths, Places, RelPath, Text, Texts};
 use std::alloc::Global;
 use task_inputs::{Declared, DefinedTask};
-use turbo_config::{Globals, TaskDef};
+use turbo_config::TaskDef;
 use workspaces::Packages;
+
+/// What the parts of all tasks are made of.
+#[derive(Drop)]
+pub(crate) struct Source<'a> {
+    pub packages: &'a Packages,
+    pub declared: &'a Declared,
+    /// What tasks of the root must not declare.
+    pub exclusions: &'a Texts,
+    /// The variables that count for every task.
+    pub globals: &'a EnvList,
+    pub env: &'a [(Text, Text)],
+    pub walk: &'a [RelPath],
+    /// Which walked files were found.
+    pub found: &'a [bool],
+}
+
+/// What the part of one task is made of.
+#[derive(Drop)]
+pub(crate) struct Job<'a> {
+    pub wanted: &'a Wanted,
+    pub task: &'a DefinedTask,
+    /// The places of its inputs in the walk.
+    pub row: &'a Places,
+    /// The installed packages that its owner uses.
+    pub uses: &'a Pairs,
+}
+
+/// The outputs of a task, with the texts behind them where its folder is the root.
+fn outputs_of(
+    alloc: Global,
+    folder: &RelPath,
+    outputs: &Texts,
+    texts: &Texts,
+) -> Result<GlobList, CollectErr>
+    ensures value { IfOk result (λ list. list ≡ outputs.now ++ texts_at texts.now folder.now) }
+    ensures memory { OnlyMemory result }
+{
+    let mut all = outputs.copy()?;
+    if folder.components().is_empty() {
+        for text in texts.as_slice() {
+            all.push(text.copy()?)?;
+        }
+    }
+    Ok(GlobList::read(alloc, &all)?)
+}
 
 /// The output set of a task.
 fn out_set(
     alloc: Global,
-    packages: &Packages,
-    declared: &Declared,
-    number: u32,
+    source: &Source,
+    owner: u32,
     task: &Text,
     def: &TaskDef,
 ) -> Result<OutSet, CollectErr>
-    requires number { number < length packages.now.packages }
-    requires same { length declared.now ≡ length packages.now.packages }
-    ensures value { IfOk result (λ outs. HoldsAt (λ p. HoldsAt (λ home. outs ≡ out_set_by p.folder home task.now def.now) declared.now number) packages.now.packages number) }
+    requires number { owner < length (owners source.now.packages.now) }
+    requires same { length source.now.declared.now ≡ length (owners source.now.packages.now) }
+    ensures value { IfOk result (λ outs. HoldsAt (λ p. HoldsAt (λ home.
+        outs ≡ out_set_by source.now.exclusions.now p.folder home task.now def.now)
+        source.now.declared.now owner) (owners source.now.packages.now) owner) }
     ensures memory { OnlyMemory result }
 {
-    let folder = packages.folder(number).copy()?;
-    let mine = GlobList::read(alloc, &def.outputs)?;
-    let others = declared.others(alloc, number, task)?;
+    let folder = source.packages.folder(owner).copy()?;
+    let mine = outputs_of(alloc, &folder, &def.outputs, source.exclusions)?;
+    let others = source.declared.others(alloc, owner, task)?;
     Ok(OutSet {
         folder,
         mine,
@@ -77,92 +125,56 @@ fn inputs_of(
 }
 
 /// The part of a task.
-fn part_of(
-    alloc: Global,
-    packages: &Packages,
-    declared: &Declared,
-    globals: &EnvList,
-    env: &[(Text, Text)],
-    walk: &[RelPath],
-    found: &[bool],
-    wanted: &Wanted,
-    task: &DefinedTask,
-    row: &Places,
-    uses: &Pairs,
-) -> Result<Part, CollectErr>
-    requires number { task.now.«package» < length packages.now.packages }
-    requires homes { length declared.now ≡ length packages.now.packages }
-    requires same { length found.now ≡ length walk.now }
-    requires below { AllByRecursion (λ k. k < length walk.now) row.now }
-    ensures value { IfOk result (IsMade packages.now.packages declared.now globals.now env.now walk.now found.now wanted.now task.now row.now uses.now) }
+fn part_of(alloc: Global, source: &Source, job: &Job) -> Result<Part, CollectErr>
+    requires source { IsFitSource source.now }
+    requires job { IsFitJob source.now job.now }
+    ensures value { IfOk result (IsMadeFrom source.now
+        job.now.wanted.now job.now.task.now job.now.row.now job.now.uses.now) }
     ensures memory { OnlyMemory result }
 {
-    let id = &wanted.id;
-    let package = id.package.copy()?;
-    let folder = packages.folder(task.package).copy()?;
-    let name = id.task.copy()?;
-    let scripts = packages.manifest(task.package).scripts.as_slice();
-    let scripts = scripts_of(alloc, scripts, &id.task)?;
-    let args = wanted.args.copy()?;
-    let outs = out_set(alloc, packages, declared, task.package, &id.task, &task.def)?;
-    let env = env_of(alloc, &task.def, globals, env)?;
-    let inputs = inputs_of(alloc, walk, found, row.as_slice())?;
-    let externals = uses.copy()?;
-    let deps = wanted.deps.copy()?;
+    let id = &job.wanted.id;
+    let owner = job.task.owner;
+    let def = &job.task.def;
+    let scripts = source.packages.manifest(owner).scripts.as_slice();
     Ok(Part {
-        package,
-        folder,
-        task: name,
-        scripts,
-        args,
-        outs,
-        env,
-        inputs,
-        externals,
-        deps,
+        package: id.package.copy()?,
+        folder: source.packages.folder(owner).copy()?,
+        task: id.task.copy()?,
+        scripts: scripts_of(alloc, scripts, &id.task)?,
+        args: job.wanted.args.copy()?,
+        outs: out_set(alloc, source, owner, &id.task, def)?,
+        env: env_of(alloc, def, source.globals, source.env)?,
+        inputs: inputs_of(alloc, source.walk, source.found, job.row.as_slice())?,
+        externals: job.uses.copy()?,
+        deps: job.wanted.deps.copy()?,
     })
 }
 
 /// The parts of the tasks.
 pub(crate) fn all_parts(
     alloc: Global,
-    packages: &Packages,
-    declared: &Declared,
-    globals: &Globals,
-    env: &[(Text, Text)],
-    walk: &[RelPath],
-    found: &[bool],
+    source: &Source,
     wanted: &[Wanted],
     tasks: &[DefinedTask],
     rows: &[Places],
     uses: &[Pairs],
 ) -> Result<Parts, CollectErr>
-    requires numbers { AllByRecursion (λ t. t.«package» < length packages.now.packages) tasks.now }
-    requires homes { length declared.now ≡ length packages.now.packages }
-    requires same { length found.now ≡ length walk.now }
-    requires below { AllByRecursion (AllByRecursion (λ k. k < length walk.now)) rows.now }
-    requires tasks { length tasks.now ≡ length wanted.now }
-    requires rows { length rows.now ≡ length wanted.now }
-    requires uses { length uses.now ≡ length wanted.now }
-    ensures value { IfOk result (AreMade (IsMade packages.now.packages declared.now globals.now.env env.now walk.now found.now) wanted.now tasks.now rows.now uses.now) }
+    requires source { IsFitSource source.now }
+    requires fit { AreFit (length (owners source.now.packages.now)) (length source.now.walk.now)
+        wanted.now tasks.now rows.now uses.now }
+    ensures value { IfOk result
+        (AreMade (IsMadeFrom source.now) wanted.now tasks.now rows.now uses.now) }
     ensures memory { OnlyMemory result }
 {
-    let globals = EnvList::read(alloc, &globals.env)?;
     let mut parts = Parts::new(alloc);
     for (place, task) in wanted.iter().enumerate() {
-        parts.push(part_of(
-            alloc,
-            packages,
-            declared,
-            &globals,
-            env,
-            walk,
-            found,
-            task,
-            &tasks[place],
-            &rows[place],
-            &uses[place],
-        )?)?;
+        let job = Job {
+            wanted: task,
+            task: &tasks[place],
+            row: &rows[place],
+            uses: &uses[place],
+        };
+        parts.push(part_of(alloc, source, &job)?)?;
     }
     Ok(parts)
 }

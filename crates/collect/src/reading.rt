@@ -32,7 +32,8 @@ pub(crate) fn rule_paths(
     declared: &Declared,
     walk: &[RelPath],
 ) -> Result<Paths, CollectErr>
-    ensures value { IfOk result (λ paths. paths ≡ filter (λ path. is_ignore_file path && not (declared_in declared.now path)) walk.now) }
+    ensures value { IfOk result (λ paths. paths ≡ filter
+        (λ path. is_ignore_file path && not (declared_in declared.now path)) walk.now) }
     ensures memory { OnlyMemory result }
 {
     let mut paths = Paths::new(alloc);
@@ -61,7 +62,8 @@ fn read_one<T: Tree>(
 ) -> Result<Option<Bytes>, CollectErr>
     requires free { (T.state tree.old).held path.now ≡ false }
     ensures looks { Looks (T.state tree.old) (T.state tree.new) }
-    ensures reads { T.tells → ReadsOne ((T.state tree.old).files path.now) (is_large ((T.state tree.old).files path.now)) path.now result }
+    ensures reads { T.tells → ReadsOne ((T.state tree.old).files path.now)
+        (is_large ((T.state tree.old).files path.now)) path.now result }
     ensures cause { HasCause (T.state tree.old).faults (T.state tree.new).faults result }
 {
     match tree.read(alloc, path, MAX_FILE_BYTES) {
@@ -90,7 +92,8 @@ pub(crate) fn read_all<T: Tree>(
     tree: &mut T,
     paths: &[RelPath],
 ) -> Result<Files, CollectErr>
-    requires free { (path : Path) → is_among paths.now path ≡ true → (T.state tree.old).held path ≡ false }
+    requires free { (path : Path) → is_among paths.now path ≡ true
+        → (T.state tree.old).held path ≡ false }
     requires ascend { IsStrictlySortedBy path_cmp paths.now }
     ensures looks { Looks (T.state tree.old) (T.state tree.new) }
     ensures some { IfOk result (ReadsSome paths.now) }
@@ -121,7 +124,8 @@ fn look_up<T: Tree>(
     requires free { (T.state tree.old).held path.now ≡ false }
     ensures looks { Looks (T.state tree.old) (T.state tree.new) }
     ensures some { IfOk result (KnowsSome ignores.now (true, path.now)) }
-    ensures reads { T.tells → ReadsOne (known ignores.now (T.state tree.old).files path.now) (large_at (T.state tree.old).files path.now) path.now result }
+    ensures reads { T.tells → ReadsOne (known ignores.now (T.state tree.old).files path.now)
+        (large_at (T.state tree.old).files path.now) path.now result }
     ensures cause { HasCause (T.state tree.old).faults (T.state tree.new).faults result }
 {
     if !is_ignore_file(path) {
@@ -173,7 +177,9 @@ fn look_marked<T: Tree>(
     requires free { (T.state tree.old).held path.now ≡ false }
     ensures looks { Looks (T.state tree.old) (T.state tree.new) }
     ensures some { IfOk result (KnowsSome ignores.now (marked, path.now)) }
-    ensures reads { T.tells → ReadsOne (known_if (known ignores.now (T.state tree.old).files) (marked, path.now)) (is_large_at (T.state tree.old).files (marked, path.now)) path.now result }
+    ensures reads { T.tells → ReadsOne
+        (known_if (known ignores.now (T.state tree.old).files) (marked, path.now))
+        (is_large_at (T.state tree.old).files (marked, path.now)) path.now result }
     ensures cause { HasCause (T.state tree.old).faults (T.state tree.new).faults result }
 {
     if marked {
@@ -192,12 +198,14 @@ pub(crate) fn gather<T: Tree>(
     marks: &[bool],
 ) -> Result<Gathered, CollectErr>
     requires same { length marks.now ≡ length walk.now }
-    requires free { (path : Path) → is_among walk.now path ≡ true → (T.state tree.old).held path ≡ false }
+    requires free { (path : Path) → is_among walk.now path ≡ true
+        → (T.state tree.old).held path ≡ false }
     requires ascend { IsStrictlySortedBy path_cmp walk.now }
     ensures looks { Looks (T.state tree.old) (T.state tree.new) }
     ensures some { IfOk result (GathersSome ignores.now (zip marks.now walk.now)) }
     ensures same { IfOk result (λ g. length g.found.items ≡ length walk.now) }
-    ensures reads { T.tells → Gathers (known ignores.now (T.state tree.old).files) (is_large_at (T.state tree.old).files) (zip marks.now walk.now) result }
+    ensures reads { T.tells → Gathers (known ignores.now (T.state tree.old).files)
+        (is_large_at (T.state tree.old).files) (zip marks.now walk.now) result }
     ensures cause { HasCause (T.state tree.old).faults (T.state tree.new).faults result }
 {
     let mut gathered = Gathered {

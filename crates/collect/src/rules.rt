@@ -39,7 +39,8 @@ fn rules_of(alloc: Global, file: &(RelPath, Bytes)) -> Result<Ignore, CollectErr
 
 /// The rules of ignore files.
 pub(crate) fn stack_of(alloc: Global, files: &[(RelPath, Bytes)]) -> Result<Stack, CollectErr>
-    ensures value { IfOk result (λ stack. is_ignored (rules_in stack) ≡ is_ignored (rules_at (map rules_file files.now))) }
+    ensures value { IfOk result (λ stack. is_ignored (rules_in stack)
+        ≡ is_ignored (rules_at (map rules_file files.now))) }
     ensures memory { OnlyMemory result }
 {
     let mut rules = Vec::new(alloc);

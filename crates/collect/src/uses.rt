@@ -1,8 +1,9 @@
-// The installed packages that packages use.
+// The installed packages that owners of tasks use.
 ghost use Rattle.std.specs.Prelude.{◌≡◌, ◌<◌, ◌++◌, map, length, IfOk, OnOk};
 ghost use Rattle.std.specs.Option.{option_map};
 ghost use Rattle.std.specs.List.{AllByRecursion, HoldsAt};
 ghost use Rattle.serde_json.specs.View.{view};
+ghost use Rattle.workspaces.specs.Space.{owners};
 ghost use Rattle.collect.specs.Parts.{start_at, starts_from, starts_of};
 ghost use Rattle.collect.specs.Listings.{ArePaired};
 ghost use Rattle.collect.specs.Steps.{OnlyMemory, UsesAt, GivesUses, AllUses, IsEarlier};
@@ -21,7 +22,8 @@ fn add_names(
     soft: bool,
     names: &[Text],
 ) -> Result<(), CollectErr>
-    ensures added { OnOk result (starts.new.items ≡ starts.old.items ++ map (start_at from.now soft) names.now) }
+    ensures added { OnOk result (starts.new.items
+        ≡ starts.old.items ++ map (start_at from.now soft) names.now) }
     ensures memory { OnlyMemory result }
 {
     for name in names {
@@ -35,7 +37,8 @@ fn add_names(
 }
 
 fn add_needs(starts: &mut Vec<Start>, from: &Text, needs: &Needs) -> Result<(), CollectErr>
-    ensures added { OnOk result (starts.new.items ≡ starts.old.items ++ starts_from from.now needs.now) }
+    ensures added { OnOk result (starts.new.items
+        ≡ starts.old.items ++ starts_from from.now needs.now) }
     ensures memory { OnlyMemory result }
 {
     add_names(starts, from, false, needs.hard.as_slice())?;
@@ -43,29 +46,32 @@ fn add_needs(starts: &mut Vec<Start>, from: &Text, needs: &Needs) -> Result<(), 
     Ok(())
 }
 
-/// What is looked up for the package.
+/// What is looked up for the owner: what it needs from its folder, and what the root needs.
 fn starts_of(alloc: Global, packages: &Packages, number: u32) -> Result<Vec<Start>, CollectErr>
-    requires { number < length packages.now.packages }
-    ensures value { IfOk result (λ starts. HoldsAt (λ p. starts.items ≡ starts_of packages.now p) packages.now.packages number) }
+    requires { number < length (owners packages.now) }
+    ensures value { IfOk result (λ starts. HoldsAt
+        (λ p. starts.items ≡ starts_of packages.now p) (owners packages.now) number) }
     ensures memory { OnlyMemory result }
 {
     let folder = packages.folder(number).text(alloc)?;
     let root = Text::read(alloc, "")?;
     let mut starts = Vec::new(alloc);
     add_needs(&mut starts, &folder, packages.needs(number))?;
-    add_needs(&mut starts, &root, packages.root_needs())?;
+    add_needs(&mut starts, &root, packages.needs(packages.count()))?;
     Ok(starts)
 }
 
-/// The installed packages that the package uses.
+/// The installed packages that the owner uses.
 fn uses_of(
     alloc: Global,
     packages: &Packages,
     lock: Option<&Lock>,
     number: u32,
 ) -> Result<Pairs, CollectErr>
-    requires { number < length packages.now.packages }
-    ensures { HoldsAt (λ p. GivesUses packages.now (option_map (λ l. view l.now) lock.entry) p result) packages.now.packages number }
+    requires { number < length (owners packages.now) }
+    ensures { HoldsAt
+        (λ p. GivesUses packages.now (option_map (λ l. view l.now) lock.entry) p result)
+        (owners packages.now) number }
 {
     let lock = match lock {
         None => return Ok(Pairs::new(alloc)),
@@ -82,19 +88,19 @@ fn uses_of(
     }
 }
 
-/// The least place of a task of the package.
+/// The least place of a task of the owner.
 fn earlier(tasks: &[DefinedTask], number: u32) -> Option<usize>
     ensures { IsEarlier tasks.now number result }
 {
     for (place, task) in tasks.iter().enumerate() {
-        if task.package == number {
+        if task.owner == number {
             return Some(place);
         }
     }
     None
 }
 
-/// The installed packages that the package of the task behind these uses, whose own are known.
+/// The installed packages that the owner of the task behind these uses, whose own are known.
 fn next_uses(
     alloc: Global,
     packages: &Packages,
@@ -103,9 +109,13 @@ fn next_uses(
     uses: &[Pairs],
     number: u32,
 ) -> Result<Pairs, CollectErr>
-    requires number { number < length packages.now.packages }
-    requires uses { ArePaired (λ t pairs. UsesAt packages.now (option_map (λ l. view l.now) lock) t.«package» pairs) before.now uses.now }
-    ensures { HoldsAt (λ p. GivesUses packages.now (option_map (λ l. view l.now) lock.entry) p result) packages.now.packages number }
+    requires number { number < length (owners packages.now) }
+    requires uses { ArePaired
+        (λ t pairs. UsesAt packages.now (option_map (λ l. view l.now) lock) t.owner pairs)
+        before.now uses.now }
+    ensures { HoldsAt
+        (λ p. GivesUses packages.now (option_map (λ l. view l.now) lock.entry) p result)
+        (owners packages.now) number }
 {
     match earlier(before, number) {
         None => uses_of(alloc, packages, lock, number),
@@ -116,19 +126,20 @@ fn next_uses(
     }
 }
 
-/// The installed packages that each task's package uses. What a package uses is looked up once.
+/// The installed packages that each task's owner uses. What an owner uses is looked up once.
 pub(crate) fn all_uses(
     alloc: Global,
     packages: &Packages,
     lock: Option<&Lock>,
     tasks: &[DefinedTask],
 ) -> Result<Vec<Pairs>, CollectErr>
-    requires { AllByRecursion (λ t. t.«package» < length packages.now.packages) tasks.now }
-    ensures { AllUses packages.now (option_map (λ l. view l.now) lock.entry) tasks.now (λ us. us.items) result }
+    requires { AllByRecursion (λ t. t.owner < length (owners packages.now)) tasks.now }
+    ensures { AllUses packages.now (option_map (λ l. view l.now) lock.entry)
+        tasks.now (λ us. us.items) result }
 {
     let mut uses: Vec<Pairs> = Vec::new(alloc);
     for (place, task) in tasks.iter().enumerate() {
-        let pairs = match next_uses(alloc, packages, lock, &tasks[..place], &uses, task.package) {
+        let pairs = match next_uses(alloc, packages, lock, &tasks[..place], &uses, task.owner) {
             Ok(pairs) => pairs,
             Err(e) => return Err(e),
         };

@@ -1,6 +1,6 @@
 -- Packages by their names, which ascend, and tasks of theirs.
 use Rattle.std.proofs.Common.{◌≡◌, ◌≢◌, ℕ, zero, suc, ◌+◌, ◌<◌, ◌≤◌, false, List, [], ◌∷◌, ◌++◌, length, get_or, map, AllPairs, refl, sym, ap, ◌∙◌, subst, arith}
-use Rattle.std.specs.Prelude.{Some, find, bytes_eq}
+use Rattle.std.specs.Prelude.{Some, bytes_eq}
 use Rattle.std.specs.List.{AllByRecursion}
 use Rattle.std.specs.List.Sorted.{IsStrictlySortedBy}
 use Rattle.std.specs.declared.cmp.Ordering.TheVariants.{Less}
@@ -11,6 +11,8 @@ use Rattle.std.proofs.lemmas.List.Quantifiers.{all_pairs_push}
 use Rattle.rel_path.specs.Paths.{name_cmp}
 use Rattle.rel_path.proofs.PathLaws.{name_self}
 use Rattle.workspaces.specs.declared.member.Package.{Package}
+use Rattle.workspaces.specs.Space.{Space}
+use Rattle.workspaces.proofs.Owners.{named_package}
 use Rattle.turbo_config.specs.declared.entry.TaskDef.{TaskDef}
 use Rattle.turbo_config.specs.declared.task_id.TaskId.{TaskId}
 use Rattle.turbo_config.specs.Setup.{Setup, task_def}
@@ -37,20 +39,13 @@ rises (p ∷ ps) up (suc i) (suc j) d before less = rises ps up.1 i j d (omega a
 differ : (a b : List ℕ) → name_cmp a b ≡ Less → bytes_eq a b ≡ false
 differ a b less = sym (is_eq-slice_cmp a b) ∙ ap is_eq less
 
--- a package is the first of its name
-first_named : (ps : List Package) → Ascend ps → (i : ℕ) (d : Package) → i < length ps → find (λ (p : Package). bytes_eq p.name (get_or ps i d).name) ps ≡ Some (get_or ps i d)
-unfolding IsStrictlySortedBy
-first_named [] up i d less = absurd (omega arith)
-first_named (p ∷ ps) up zero d less = rw (name_self p.name) refl
-first_named (p ∷ ps) up (suc i) d less = rw (differ p.name (get_or ps i d).name (rises (p ∷ ps) up zero (suc i) d (omega arith) less)) (first_named ps up.1 i d (omega arith))
-
 -- a task of the package at the place is defined where it has a definition
-pub defined_at : (setup : Setup) (ps : List Package) (id : TaskId) (i : ℕ) (def : TaskDef) → Ascend ps → i < length ps → ((d : Package) → id.«package» ≡ (get_or ps i d).name) → task_def setup id.«package» id.task ≡ Some def → IsDefined setup ps id
-defined_at setup ps id i def up less named is =
-    let d = (there ps i less).0 in
+pub defined_at : (setup : Setup) (space : Space) (id : TaskId) (i : ℕ) (def : TaskDef) → Ascend space.packages → i < length space.packages → ((d : Package) → id.«package» ≡ (get_or space.packages i d).name) → task_def setup id.«package» id.task ≡ Some def → IsDefined setup space id
+defined_at setup space id i def up less named is =
+    let d = (there space.packages i less).0 in
     record {
-      member = get_or ps i d;
-      stands = subst (λ (name : List ℕ). find (λ (p : Package). bytes_eq p.name name) ps ≡ Some (get_or ps i d)) (sym (named d)) (first_named ps up i d less);
+      member = get_or space.packages i d;
+      stands = named_package space id.«package» up i d less (sym (named d));
       def = def;
       defined = subst (λ (name : List ℕ). task_def setup name id.task ≡ Some def) (named d) is;
     }

@@ -9,6 +9,7 @@ ghost use Rattle.std.specs.Prelude.{◌≡◌, ◌≢◌, [], false, AllPairs};
 ghost use Rattle.std.specs.List.{AllByRecursion};
 ghost use Rattle.rel_path.specs.Paths.{Path};
 ghost use Rattle.tree_walk.specs.Walked.{IsWalk};
+ghost use Rattle.workspaces.specs.Space.{AreWalked};
 ghost use Rattle.collect.specs.Tasks.{IsDefined};
 
 mod wanted;
@@ -45,7 +46,8 @@ fn listing_of<T: Tree>(
 ) -> Result<Listing>
     requires none { (path : Path) → (T.state tree.old).held path ≡ false }
     requires walk { IsWalk repository.now.walk }
-    requires defined { AllByRecursion (λ w. IsDefined repository.now.config repository.now.packages.packages w.id) wanted.now }
+    requires walked { AreWalked repository.now.walk repository.now.packages.packages }
+    requires defined { AllByRecursion (λ w. IsDefined repository.now.config repository.now.packages w.id) wanted.now }
     requires alone { AllByRecursion (λ w. w.deps ≡ []) wanted.now }
     requires ids { AllPairs (λ v w. v.id ≢ w.id) wanted.now }
 {

@@ -21,7 +21,7 @@ fn task_of(
 ) -> Result<Option<Wanted>>
     requires number { number < length packages.now.packages }
     requires proper { IsProper packages.now }
-    ensures defined { IfOk result (λ found. IfSome found (λ w. IsDefined config.now packages.now.packages w.id)) }
+    ensures defined { IfOk result (λ found. IfSome found (λ w. IsDefined config.now packages.now w.id)) }
     ensures named { IfOk result (λ found. IfSome found (λ w. HoldsAt (λ member. w.id.«package» ≡ member.name) packages.now.packages number)) }
     ensures alone { IfOk result (λ found. IfSome found (λ w. w.deps ≡ [])) }
 {
@@ -45,7 +45,7 @@ pub fn wanted_tasks(
     config: &Config,
     task: &Text,
 ) -> Result<Vec<Wanted>>
-    ensures defined { IfOk result (λ all. AllByRecursion (λ w. IsDefined config.now packages.now.packages w.id) all.items) }
+    ensures defined { IfOk result (λ all. AllByRecursion (λ w. IsDefined config.now packages.now w.id) all.items) }
     ensures alone { IfOk result (λ all. AllByRecursion (λ w. w.deps ≡ []) all.items) }
     ensures ids { IfOk result (λ all. AllPairs (λ v w. v.id ≢ w.id) all.items) }
 {

@@ -164,12 +164,6 @@ places_next test xs q less = rw add-one (places-take test xs q less)
 pub any_next : {X : Type 0} (test : X → Bool) (xs : List X) (q : ℕ) → q < length xs → list_any test (take q xs) ≡ false → passes_at test xs q ≡ false → list_any test (take (q + 1) xs) ≡ false
 any_next test xs q less none not = rw add-one (any-take test xs q less none not)
 
-pub passes-get : {X : Type 0} (test : X → Bool) (xs : List X) (q : ℕ) (d : X) → q < length xs → passes_at test xs q ≡ test (get_or xs q d)
-passes-get test [] q d less = absurd (omega arith)
-passes-get test (x ∷ xs) zero d less = refl
-passes-get test (x ∷ xs) (suc q) d less = passes-get test xs q d (omega arith)
-
--- what a test says of the element at a place
 pub passes_held : {X : Type 0} (test : X → Bool) (v : Bool) (xs : List X) (q : ℕ) → q < length xs → HoldsAt (λ x. v ≡ test x) xs q → v ≡ passes_at test xs q
 passes_held test v [] q less held = absurd (omega arith)
 passes_held test v (x ∷ xs) zero less held = held x

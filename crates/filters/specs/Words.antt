@@ -1,5 +1,5 @@
 -- What a word of `--filter` writes: an optional `!`, an optional `...` or `...^`, a core, and an optional `...` or `^...` (Turborepo docs, "Filtering packages").
-use Rattle.std.specs.Prelude.{ℕ, ◌==◌, ◌-◌, ◌||◌, Bool, true, false, if◌then◌else◌, List, [], ◌∷◌, length, take, drop, Option, Some, None, is_some, nat_eq, codes}
+use Rattle.std.specs.Prelude.{ℕ, ◌==◌, ◌-◌, ◌||◌, Bool, true, false, if◌then◌else◌, List, length, take, drop, Option, Some, None, is_some, nat_eq, codes}
 use Rattle.std.specs.Option.{option_map, option_and_then, option_or}
 use Rattle.std.specs.List.{list_any, starts_with, ends_with}
 use Rattle.std.specs.Str.{chars}

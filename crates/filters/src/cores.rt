@@ -32,7 +32,8 @@ pub(crate) fn core_places(
     core: &Core,
     packages: &Packages,
 ) -> Result<Places, FilterErr>
-    ensures value { IfOk result (λ found. found ≡ places (is_in_core core.now) packages.now.packages) }
+    ensures value { IfOk result
+        (λ found. found ≡ places (is_in_core core.now) packages.now.packages) }
     ensures memory { IsOkUnless result FilterErr.OutOfMemory }
 {
     let mut found = Places::new(alloc);

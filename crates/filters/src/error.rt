@@ -5,7 +5,6 @@ ghost use Rattle.filters.specs.declared.error.FilterErr.TheVariants.{OutOfMemory
 use rel_path::Text;
 use std::alloc::{AllocError, AllocFailed};
 use thiserror::Error;
-use workspaces::SpaceErr;
 
 /// Why filters select nothing.
 #[derive(Debug, Drop, Error)]
@@ -32,15 +31,6 @@ impl<T: Drop> From<AllocFailed<T>> for FilterErr {
     ghost from_gives = { λ _ e. e ≡ OutOfMemory };
 
     fn from(_error: AllocFailed<T>) -> FilterErr {
-        FilterErr::OutOfMemory
-    }
-}
-
-// For calls whose only error is want of memory.
-impl From<SpaceErr> for FilterErr {
-    ghost from_gives = { λ _ e. e ≡ OutOfMemory };
-
-    fn from(_error: SpaceErr) -> FilterErr {
         FilterErr::OutOfMemory
     }
 }

@@ -12,11 +12,11 @@ ghost use Rattle.workspaces.specs.Marks.{is_marked};
 use crate::FilterErr;
 use crate::cores::check_name;
 use crate::filter::Filter;
-use crate::marks::{mark, marked};
+use crate::marks::mark;
 use crate::taken::taken;
 use rel_path::{Places, Text, Texts};
 use std::alloc::Global;
-use workspaces::Packages;
+use workspaces::{Packages, marked};
 
 /// What filters took: those without `!`, and those with one.
 #[derive(Drop)]
@@ -62,7 +62,8 @@ fn sides_of(alloc: Global, filters: &[Filter], packages: &Packages) -> Result<Si
 /// The marks on what is included, or on all packages.
 fn included_marks(alloc: Global, included: Vec<bool>, all: bool) -> Result<Vec<bool>, FilterErr>
     ensures same { IfOk result (λ marks. length marks.items ≡ length included.items) }
-    ensures marks { IfOk result (λ marks. (p : ℕ) → is_marked marks.items p ≡ is_included all included.items p) }
+    ensures marks { IfOk result
+        (λ marks. (p : ℕ) → is_marked marks.items p ≡ is_included all included.items p) }
     ensures memory { IsOkUnless result FilterErr.OutOfMemory }
 {
     if all {
@@ -84,7 +85,7 @@ fn chosen(alloc: Global, sides: Sides) -> Result<Places, FilterErr>
     let excluded = marked(alloc, sides.excluded.as_slice())?;
     let mut marks = included_marks(alloc, sides.included, sides.only_excludes)?;
     mark(marks.as_mut_slice(), excluded.as_slice(), false);
-    marked(alloc, marks.as_slice())
+    Ok(marked(alloc, marks.as_slice())?)
 }
 
 /// What filters select that have no name that is missing.
@@ -134,7 +135,8 @@ fn checked_filters(
     words: &[Text],
     packages: &Packages,
 ) -> Result<Vec<Filter>, FilterErr>
-    ensures value { IfOk result (λ filters. map filter_of words.now ≡ map (λ filter. Some filter) filters.items) }
+    ensures value { IfOk result
+        (λ filters. map filter_of words.now ≡ map (λ filter. Some filter) filters.items) }
     ensures whole { IfOk result (λ filters. words_fault packages.now.packages words.now ≡ None) }
     ensures err { IfErr result (MayRefuse (words_fault packages.now.packages words.now)) }
 {

@@ -9,10 +9,10 @@ ghost use Rattle.filters.specs.Sides.{AreNeighbours, LieBelow, is_taken};
 use crate::FilterErr;
 use crate::cores::core_places;
 use crate::filter::Filter;
-use crate::marks::{mark, marked};
+use crate::marks::mark;
 use rel_path::Places;
 use std::alloc::Global;
-use workspaces::Packages;
+use workspaces::{Packages, marked};
 
 /// What the packages of the set depend on, where that is asked for.
 fn below_if(
@@ -111,5 +111,5 @@ pub(crate) fn taken(
     let neighbours = neighbours_of(alloc, filter, packages)?;
     let mut marks = vec![in alloc; false; packages.count() as usize]?;
     mark_taken(marks.as_mut_slice(), &neighbours, !filter.leaves_core());
-    marked(alloc, marks.as_slice())
+    Ok(marked(alloc, marks.as_slice())?)
 }

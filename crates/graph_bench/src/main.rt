@@ -90,8 +90,8 @@ fn words(alloc: Global, count: u32) -> Result<Texts> {
 /// The graph of the words and its plan: how many tasks it has.
 fn planned(alloc: Global, repo: &Repo, words: &Texts) -> Result<usize> {
     let none = Places::new(alloc);
-    let graph = expand(alloc, words, &none, &repo.packages, &repo.config)?;
-    let plan = graph.order(alloc)?;
+    let expansion = expand(alloc, words, &none, false, &repo.packages, &repo.config)?;
+    let plan = expansion.graph.order(alloc)?;
     Ok(plan.ids.as_slice().len())
 }
 

@@ -10,16 +10,14 @@ use Rattle.env_select.specs.Choice.{is_hashed, IsChosen, ChosenOnce}
 use Rattle.npm_lock.specs.declared.error.ExtErr.TheVariants.{Missing as missing_name}
 use Rattle.npm_lock.specs.Externals.{Externals}
 use Rattle.workspaces.specs.declared.member.Package.{Package}
-use Rattle.workspaces.specs.Space.{Space}
+use Rattle.workspaces.specs.Space.{Space, owner_named}
 use Rattle.turbo_config.specs.Setup.{Setup, task_def}
 use Rattle.listing.specs.declared.part.Part.{Part}
 use Rattle.listing.specs.declared.part.Listing.{Listing}
-use Rattle.task_inputs.specs.Homes.{out_set_of}
 use Rattle.collect.specs.declared.wanted.Wanted.{Wanted}
 use Rattle.collect.specs.declared.error.CollectErr.{CollectErr}
 use Rattle.collect.specs.declared.error.CollectErr.TheVariants.{Missing, TooLarge, TooMuch, Failed, OutOfMemory}
-use Rattle.collect.specs.Tasks.{package_named}
-use Rattle.collect.specs.Parts.{IsPart, Uses, starts_of, scripts_of, takes_input}
+use Rattle.collect.specs.Parts.{IsPart, Uses, starts_of, scripts_of, out_set_of, takes_input}
 use Rattle.collect.specs.Listings.{IsListing}
 use Rattle.collect.specs.Refusals.{FindsAll, IsMissingOf, IsFirstMissing, Collects}
 use Rattle.plan_laws.proofs.Places.{from_some, all_at, all_before}
@@ -33,7 +31,7 @@ module _ (space : Space) where
   one_installed None member pairs more a b = a ∙ sym b
   one_installed (Some lockfile) member pairs more a b = one_uses lockfile (starts_of space member) pairs more a b
 
-  found_not_missing : (lock : Option Data) (w : Wanted) (member : Package) (from name : List ℕ) → FindsAll space lock w → package_named space.packages w.id.«package» ≡ Some member → IsMissingOf space lock member from name → ⊥
+  found_not_missing : (lock : Option Data) (w : Wanted) (member : Package) (from name : List ℕ) → FindsAll space lock w → owner_named space w.id.«package» ≡ Some member → IsMissingOf space lock member from name → ⊥
   found_not_missing lock w member from name a stands b =
       let same : a.member ≡ member = from_some a.member member (sym a.stands ∙ stands) in
       found_or_missing b.lockfile (starts_of space member) a.pairs from name (subst (λ l. Uses space l member a.pairs) b.there (subst (λ m. Uses space lock m a.pairs) same a.uses)) b.missing
@@ -61,7 +59,7 @@ module _ (space : Space) (lock : Option Data) (wanted : List Wanted) where
   one_first_missing : (from name from2 name2 : List ℕ) → IsFirstMissing space lock wanted from name → IsFirstMissing space lock wanted from2 name2 → (from ≡ from2) × (name ≡ name2)
   one_first_missing from name from2 name2 a b =
       let w : a.wanted ≡ b.wanted = from_some a.wanted b.wanted (sym a.stands ∙ ap (slice_get wanted) (one_place from name from2 name2 a b) ∙ b.stands) in
-      let m : a.member ≡ b.member = from_some a.member b.member (sym a.is_its ∙ (λ j. package_named space.packages (w j).id.«package») ∙ b.is_its) in
+      let m : a.member ≡ b.member = from_some a.member b.member (sym a.is_its ∙ (λ j. owner_named space (w j).id.«package») ∙ b.is_its) in
       let misses : IsMissingOf space lock b.member from name = subst (λ m. IsMissingOf space lock m from name) m a.misses in
       let l : misses.lockfile ≡ b.misses.lockfile = from_some misses.lockfile b.misses.lockfile (sym misses.there ∙ b.misses.there) in
       one_missing b.misses.lockfile (starts_of space b.member) from name from2 name2 (subst (λ d. Externals d (starts_of space b.member) (Err (missing_name from name))) l misses.missing) b.misses.missing
@@ -87,7 +85,7 @@ module _ (choice : ChosenOnce) (setup : Setup) (space : Space) (lock : Option Da
       let task : one.task ≡ other.task = a.task ∙ sym b.task in
       let scripts : one.scripts ≡ other.scripts = a.scripts ∙ (λ j. scripts_of (m j).manifest.scripts w.id.task) ∙ sym b.scripts in
       let args : one.args ≡ other.args = a.args ∙ sym b.args in
-      let outs : one.outs ≡ other.outs = a.outs ∙ (λ j. out_set_of setup (m j) w.id.task (d j)) ∙ sym b.outs in
+      let outs : one.outs ≡ other.outs = a.outs ∙ (λ j. out_set_of setup space (m j) w.id.task (d j)) ∙ sym b.outs in
       let pairs : one.env ≡ other.env = choice (is_hashed b.def.env setup.globals.env) env one.env other.env (subst (λ def. IsChosen (is_hashed def.env setup.globals.env) env one.env) d a.env_pairs) b.env_pairs in
       let inputs : one.inputs ≡ other.inputs = a.inputs ∙ (λ j. filter (takes_input setup space files walk (m j) (d j)) walk) ∙ sym b.inputs in
       let externals : one.externals ≡ other.externals = one_installed space lock b.member one.externals other.externals (subst (λ p. Uses space lock p one.externals) m a.externals) b.externals in

@@ -1,5 +1,5 @@
 -- One plan of a repository that was read, step by step.
-use Rattle.std.proofs.Common.{◌≡◌, inl, inr, ℕ, List, [], length, map, sym, ap, ◌∙◌, subst, arith}
+use Rattle.std.proofs.Common.{◌≡◌, inl, inr, ℕ, Bool, List, [], length, map, sym, ap, ◌∙◌, subst, arith}
 use Rattle.std.specs.Prelude.{Option, Some, None, Result, Ok, Err, find, slice_get}
 use Rattle.std.proofs.lemmas.List.{ext_get_or}
 use Rattle.std.proofs.lemmas.Option.{slice_get_cases}
@@ -7,6 +7,7 @@ use Rattle.rel_path.specs.Files.{FileMap}
 use Rattle.env_select.specs.Choice.{ChosenOnce, is_given}
 use Rattle.cli_words.specs.declared.order.RunOrder.{RunOrder}
 use Rattle.workspaces.specs.declared.member.Package.{Package}
+use Rattle.workspaces.specs.Space.{Space}
 use Rattle.turbo_config.specs.declared.task_id.TaskId.{TaskId}
 use Rattle.turbo_config.specs.Setup.{Setup, task_def}
 use Rattle.filters.specs.declared.error.FilterErr.{FilterErr}
@@ -14,7 +15,6 @@ use Rattle.filters.specs.Selection.{words_fault}
 use Rattle.task_graph.specs.declared.error.GraphErr.{GraphErr}
 use Rattle.task_graph.specs.declared.node.Node.{Node}
 use Rattle.task_graph.specs.declared.plan.PlanList.{PlanList}
-use Rattle.task_graph.specs.Entries.{entry_tasks}
 use Rattle.task_graph.specs.Nodes.{ids_of}
 use Rattle.task_graph.specs.Plans.{IsPlan, places_of}
 use Rattle.task_graph.specs.Persistent.{is_persistent}
@@ -30,8 +30,8 @@ use Rattle.run_plan.specs.Plans.{given_at}
 use Rattle.repository.specs.Reading.{Contents}
 use Rattle.planner.specs.Refusals.{filter_refusal, graph_refusal, collect_refusal}
 use Rattle.planner.specs.Settings.{env_mode_for}
-use Rattle.planner.specs.Wanted.{named, wanted_of}
-use Rattle.planner.specs.Plans.{Answer, AfterFiltersOf, AfterFilters, AfterGraphOf, AfterGraph, AfterOrder, AfterPersistent, AfterCollectOf, AfterCollect, IsPlanOf}
+use Rattle.planner.specs.Wanted.{asks_all, wanted_of}
+use Rattle.planner.specs.Plans.{Answer, entries_of, AfterFiltersOf, AfterFilters, AfterGraphOf, AfterGraph, AfterOrder, AfterPersistent, AfterCollectOf, AfterCollect, IsPlanOf}
 use Rattle.plan_laws.specs.Laws.{AtMostOne, PlanLaw}
 use Rattle.plan_laws.proofs.Selected.{one_selection}
 use Rattle.plan_laws.proofs.Cycling.{one_cycle}
@@ -59,9 +59,9 @@ module _ (law : GraphLaw) where
   after_graph_of (Ok nodes) next each one other s t = each nodes one other s t
   after_graph_of (Err fault) next each one other s t = one_refusal (graph_refusal fault) one other s t
 
-  after_graph : (packages : List Package) (setup : Setup) (selected : List ℕ) (words : List (List ℕ)) (next : List Node → Answer → Type 0) → ((nodes : List Node) → AtMostOne (next nodes)) → AtMostOne (AfterGraph packages setup selected words next)
-  after_graph packages setup selected words next each one other s t =
-      let same : s.0 ≡ t.0 = law.graph packages setup selected words s.0 t.0 s.1 t.1 in
+  after_graph : (space : Space) (setup : Setup) (selected : List ℕ) (all : Bool) (words : List (List ℕ)) (next : List Node → Answer → Type 0) → ((nodes : List Node) → AtMostOne (next nodes)) → AtMostOne (AfterGraph space setup selected all words next)
+  after_graph space setup selected all words next each one other s t =
+      let same : s.0 ≡ t.0 = law.graph space setup selected all words s.0 t.0 s.1 t.1 in
       after_graph_of t.0 next each one other (subst (λ graph. AfterGraphOf graph next one) same s.2) t.2
 
   one_order : (nodes : List Node) (one other : PlanList) → IsPlan nodes one → IsPlan nodes other → one ≡ other
@@ -127,8 +127,8 @@ module _ (law : GraphLaw) (choice : ChosenOnce) where
   pub one_plan : PlanLaw
   one_plan contents order env files =
       after_filters contents.space.packages order.filters _ (λ selected.
-      after_graph law contents.space.packages contents.setup selected order.tasks _ (λ nodes.
+      after_graph law contents.space contents.setup selected (asks_all order.filters) order.tasks _ (λ nodes.
       after_order law nodes _ (λ list.
-      after_persistent (find (is_persistent contents.space.packages contents.setup) (ids_of nodes)) _ (
-      after_collect choice contents files env (wanted_of (named (entry_tasks contents.space.packages contents.setup selected order.tasks)) order.args list) _ (λ listing.
+      after_persistent (find (is_persistent contents.space contents.setup) (ids_of nodes)) _ (
+      after_collect choice contents files env (wanted_of (entries_of contents order selected) order.args list) _ (λ listing.
       one_end choice contents.setup order env list listing)))))

@@ -1,8 +1,9 @@
 -- How planning ends at a step.
-use Rattle.std.proofs.Common.{◌≡◌, ◌⊎◌, inl, inr, ℕ, List, refl, sym, subst, Err}
+use Rattle.std.proofs.Common.{◌≡◌, ◌⊎◌, inl, inr, ℕ, Bool, List, refl, sym, subst, Err}
 use Rattle.std.specs.Prelude.{Option, Some, None}
 use Rattle.rel_path.specs.Files.{FileMap}
 use Rattle.workspaces.specs.declared.member.Package.{Package}
+use Rattle.workspaces.specs.Space.{Space}
 use Rattle.turbo_config.specs.Setup.{Setup}
 use Rattle.turbo_config.specs.declared.task_id.TaskId.{TaskId}
 use Rattle.filters.specs.declared.error.FilterErr.{FilterErr}
@@ -38,10 +39,10 @@ filters_end packages words fault (inl memory) = subst (λ f. Ends (AfterFilters 
 filters_end packages words fault (inr is) = refused (AfterFilters packages words NoMore) (filter_refusal fault)
     (λ reason e. subst (λ (o : Option FilterErr). AfterFiltersOf o packages words NoMore (Err reason)) (sym is) (is_refusal (filter_refusal fault) reason e (Err reason) refl))
 
-pub graph_ends : (packages : List Package) (setup : Setup) (selected : List ℕ) (words : List (List ℕ)) (fault : GraphErr) → (fault ≡ graph.OutOfMemory) ⊎ MeansGraph packages setup selected words (Err fault)
-    → Ends (AfterGraph packages setup selected words NoMore) (error_of (graph_refusal fault))
-graph_ends packages setup selected words fault (inl memory) = subst (λ f. Ends (AfterGraph packages setup selected words NoMore) (error_of (graph_refusal f))) (sym memory) tt
-graph_ends packages setup selected words fault (inr means) = refused (AfterGraph packages setup selected words NoMore) (graph_refusal fault)
+pub graph_ends : (space : Space) (setup : Setup) (selected : List ℕ) (all : Bool) (words : List (List ℕ)) (fault : GraphErr) → (fault ≡ graph.OutOfMemory) ⊎ MeansGraph space setup selected all words (Err fault)
+    → Ends (AfterGraph space setup selected all words NoMore) (error_of (graph_refusal fault))
+graph_ends space setup selected all words fault (inl memory) = subst (λ f. Ends (AfterGraph space setup selected all words NoMore) (error_of (graph_refusal f))) (sym memory) tt
+graph_ends space setup selected all words fault (inr means) = refused (AfterGraph space setup selected all words NoMore) (graph_refusal fault)
     (λ reason e. (Err fault, means, is_refusal (graph_refusal fault) reason e (Err reason) refl))
 
 pub order_ends : (nodes : List Node) (fault : GraphErr) → IsNoPlan nodes fault → Ends (AfterOrder nodes NoMore) (error_of (graph_refusal fault))

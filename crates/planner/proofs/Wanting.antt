@@ -1,6 +1,6 @@
 -- The wanted tasks, by the plan order.
 use Rattle.std.proofs.Common.{◌≡◌, ◌≢◌, ◌&&◌, ◌||◌, ◌==◌, ◌+◌, ◌<◌, ◌≤◌, ℕ, Bool, true, false, not, cond, List, [], ◌∷◌, ◌++◌, length, get_or, take, map, refl, sym, ap, ◌∙◌, subst, arith, nat_lt}
-use Rattle.std.specs.Prelude.{Option, Some, None, is_some, find, zip, slice_index_or}
+use Rattle.std.specs.Prelude.{Option, Some, None, is_some, zip, slice_index_or}
 use Rattle.std.specs.List.{AllByRecursion, AllPairs}
 use Rattle.std.specs.List.Sorted.{IsStrictlySortedBy}
 use Rattle.std.specs.declared.cmp.Ordering.TheVariants.{Less}
@@ -9,16 +9,16 @@ use Rattle.std.specs.Cmp.{ranks}
 use Rattle.std.proofs.lemmas.Bool.{false≢true}
 use Rattle.std.proofs.lemmas.Bool.Decides.{nat_tests}
 use Rattle.std.proofs.lemmas.List.{get_or-map, length-map, take_more, take_all}
-use Rattle.std.proofs.lemmas.Slice.Eq.{bytes_eq-Decides}
-use Rattle.rel_path.specs.Paths.{name_eq}
 use Rattle.workspaces.specs.declared.member.Package.{Package}
+use Rattle.workspaces.specs.Space.{Space, owner_named}
 use Rattle.workspaces.specs.Reach.{AreBelow, is_in}
+use Rattle.workspaces.proofs.Owners.{owner_name}
 use Rattle.filters.specs.Selection.{AreSelectedBy, is_included, is_excluded}
 use Rattle.turbo_config.specs.Setup.{Setup, task_def}
 use Rattle.turbo_config.specs.declared.task_id.TaskId.{TaskId}
 use Rattle.task_graph.specs.declared.plan.PlanList.{PlanList}
 use Rattle.task_graph.specs.Ids.{has}
-use Rattle.task_graph.specs.Tasks.{package_named, has_def, is_task}
+use Rattle.task_graph.specs.Tasks.{has_def, is_task}
 use Rattle.spawn_dev.specs.Orders.{IsAscending}
 use Rattle.collect.specs.Tasks.{IsDefined}
 use Rattle.collect.specs.declared.wanted.Wanted.{Wanted}
@@ -40,32 +40,23 @@ found_some : {X : Type 0} (o : Option X) → is_some o ≡ true → (x : X) × (
 found_some None e = absurd (false≢true e)
 found_some (Some x) e = (x, refl)
 
--- the package that is found has the name
-found_name : (packages : List Package) (name : List ℕ) (member : Package) → find (λ m. name_eq m.name name) packages ≡ Some member → member.name ≡ name
-found_name [] name member is = absurd (cc)
-found_name (p ∷ packages) name member is = by (name_eq p.name name) refl is (found_name packages name member) where
-  by : (t : Bool) → name_eq p.name name ≡ t → cond t (Some p) (find (λ m. name_eq m.name name) packages) ≡ Some member → (find (λ m. name_eq m.name name) packages ≡ Some member → member.name ≡ name) → member.name ≡ name
-  by true e some further = let same : p ≡ member = cc in subst (λ (m : Package). m.name ≡ name) same ((bytes_eq-Decides p.name name).0 e)
-  by false e later further = further later
-
-pub is_defined : (packages : List Package) (setup : Setup) (id : TaskId) → is_task packages setup id ≡ true → IsDefined setup packages id
-unfolding package_named
-is_defined packages setup id is =
-    let member = found_some (package_named packages id.«package») (and_first (is_some (package_named packages id.«package»)) (has_def setup id) is) in
-    let def = found_some (task_def setup id.«package» id.task) (and_second (is_some (package_named packages id.«package»)) (has_def setup id) is) in
+pub is_defined : (space : Space) (setup : Setup) (id : TaskId) → is_task space setup id ≡ true → IsDefined setup space id
+is_defined space setup id is =
+    let member = found_some (owner_named space id.«package») (and_first (is_some (owner_named space id.«package»)) (has_def setup id) is) in
+    let def = found_some (task_def setup id.«package» id.task) (and_second (is_some (owner_named space id.«package»)) (has_def setup id) is) in
     record {
       member = member.0;
       stands = member.1;
       def = def.0;
-      defined = subst (λ (name : List ℕ). task_def setup name id.task ≡ Some def.0) (sym (found_name packages id.«package» member.0 member.1)) def.1;
+      defined = subst (λ (name : List ℕ). task_def setup name id.task ≡ Some def.0) (sym (owner_name space id.«package» member.0 member.1)) def.1;
     }
 
-pub has_def_of : (packages : List Package) (setup : Setup) (id : TaskId) → is_task packages setup id ≡ true → has_def setup id ≡ true
-has_def_of packages setup id is = and_second (is_some (package_named packages id.«package»)) (has_def setup id) is
+pub has_def_of : (space : Space) (setup : Setup) (id : TaskId) → is_task space setup id ≡ true → has_def setup id ≡ true
+has_def_of space setup id is = and_second (is_some (owner_named space id.«package»)) (has_def setup id) is
 
-pub all_defined : (packages : List Package) (setup : Setup) (ids : List TaskId) → AllByRecursion (λ id. is_task packages setup id ≡ true) ids → AllByRecursion (λ id. has_def setup id ≡ true) ids
-all_defined packages setup [] all = tt
-all_defined packages setup (id ∷ ids) all = (has_def_of packages setup id all.0, all_defined packages setup ids all.1)
+pub all_defined : (space : Space) (setup : Setup) (ids : List TaskId) → AllByRecursion (λ id. is_task space setup id ≡ true) ids → AllByRecursion (λ id. has_def setup id ≡ true) ids
+all_defined space setup [] all = tt
+all_defined space setup (id ∷ ids) all = (has_def_of space setup id all.0, all_defined space setup ids all.1)
 
 -- ---- what is wanted, task by task
 
@@ -138,9 +129,9 @@ all_through : {X : Type 0} (P Q : X → Type 0) → ((x : X) → P x → Q x) �
 all_through P Q f [] all = tt
 all_through P Q f (x ∷ xs) all = (f x all.0, all_through P Q f xs all.1)
 
-module _ (packages : List Package) (setup : Setup) (list : PlanList) (wanted : List Wanted)
+module _ (space : Space) (setup : Setup) (list : PlanList) (wanted : List Wanted)
     (ids : map (λ (w : Wanted). w.id) wanted ≡ list.ids) (deps : map (λ (w : Wanted). w.deps) wanted ≡ list.deps)
-    (tasks : AllByRecursion (λ id. is_task packages setup id ≡ true) list.ids) (apart : AllPairs (λ a b. a ≢ b) list.ids)
+    (tasks : AllByRecursion (λ id. is_task space setup id ≡ true) list.ids) (apart : AllPairs (λ a b. a ≢ b) list.ids)
     (lower : (place : ℕ) → AllByRecursion (λ d. d < place) (slice_index_or list.deps place [])) (ascend : AllByRecursion (IsStrictlySortedBy nat_cmp) list.deps) where
   differ : AllPairs (λ (v : Wanted) (w : Wanted). v.id ≢ w.id) wanted
   differ i j d before less =
@@ -148,9 +139,9 @@ module _ (packages : List Package) (setup : Setup) (list : PlanList) (wanted : L
       let here = now i j d.id before (omega (arith, less, length-map wanted (λ (w : Wanted). w.id))) in
       λ same. here (get_or-map (λ (w : Wanted). w.id) wanted i d d.id (omega (arith, before, less)) ∙ (same ∙ sym (get_or-map (λ (w : Wanted). w.id) wanted j d d.id less)))
 
-  pub in_order : AreInOrder setup packages wanted
+  pub in_order : AreInOrder setup space wanted
   in_order = record {
-    tasks = all_from_map (λ (w : Wanted). w.id) (IsDefined setup packages) wanted (subst (AllByRecursion (IsDefined setup packages)) (sym ids) (all_through (λ id. is_task packages setup id ≡ true) (IsDefined setup packages) (is_defined packages setup) list.ids tasks));
+    tasks = all_from_map (λ (w : Wanted). w.id) (IsDefined setup space) wanted (subst (AllByRecursion (IsDefined setup space)) (sym ids) (all_through (λ id. is_task space setup id ≡ true) (IsDefined setup space) (is_defined space setup) list.ids tasks));
     ids = differ;
     lower = λ place. subst (λ rows. AllByRecursion (λ d. d < place) (slice_index_or rows place [])) (sym deps) (lower place);
     deps = all_from_map (λ (w : Wanted). w.deps) (IsAscending (λ a b. a < b)) wanted (subst (AllByRecursion (IsAscending (λ a b. a < b))) (sym deps) (all_through (IsStrictlySortedBy nat_cmp) (IsAscending (λ a b. a < b)) ascending list.deps ascend));

@@ -3,18 +3,17 @@ use Rattle.std.proofs.Common.{◌≡◌, ℕ, List, refl, subst, Ok, Err}
 use Rattle.rel_path.specs.Files.{FileMap}
 use Rattle.cli_words.specs.declared.order.RunOrder.{RunOrder}
 use Rattle.task_graph.specs.declared.plan.PlanList.{PlanList}
-use Rattle.task_graph.specs.Entries.{entry_tasks}
 use Rattle.listing.specs.declared.part.Listing.{Listing}
 use Rattle.collect.specs.Refusals.{Collects}
 use Rattle.run_plan.specs.declared.plan.Plan.{Plan}
 use Rattle.repository.specs.Reading.{Contents}
-use Rattle.planner.specs.declared.error.PlannerErr.{PlannerErr}
-use Rattle.planner.specs.declared.error.PlannerErr.TheVariants.{Refused, Failed, OutOfMemory}
+use Rattle.refusals.specs.declared.stop.Stop.{Stop}
+use Rattle.refusals.specs.declared.stop.Stop.TheVariants.{Refused, Failed, OutOfMemory}
 use Rattle.planner.specs.declared.preparing.Prepared.{Prepared}
 use Rattle.planner.specs.Answers.{Answers}
-use Rattle.planner.specs.Plans.{Answer, AfterCollect, IsPlanOf}
+use Rattle.planner.specs.Plans.{Answer, entries_of, AfterCollect, IsPlanOf}
 use Rattle.planner.specs.Steps.{Ends, EndsOrFails, NoMore, Before, IsPrepared}
-use Rattle.planner.specs.Wanted.{named, wanted_of}
+use Rattle.planner.specs.Wanted.{wanted_of}
 use Rattle.planner.proofs.Following.{before_more, after_all, collect_more}
 
 module _ (contents : Contents) (order : RunOrder) (env : List (List ℕ × List ℕ)) (files : FileMap) where
@@ -23,18 +22,18 @@ module _ (contents : Contents) (order : RunOrder) (env : List (List ℕ × List 
   Rest list listing answer = (plan : Plan) × (answer ≡ Ok plan) × IsPlanOf contents.setup order env list listing plan
 
   abbrev At : List ℕ → PlanList → Answer → Type 0
-  At selected list answer = AfterCollect contents files env (wanted_of (named (entry_tasks contents.space.packages contents.setup selected order.tasks)) order.args list) (Rest list) answer
+  At selected list answer = AfterCollect contents files env (wanted_of (entries_of contents order selected) order.args list) (Rest list) answer
 
-  pub answers_before : (e : PlannerErr) → Ends (Before contents order (λ selected. NoMore)) e → Answers contents order env files (Err e)
+  pub answers_before : (e : Stop) → Ends (Before contents order (λ selected. NoMore)) e → Answers contents order env files (Err e)
   answers_before (Refused reason) says = before_more contents order At (Err reason) says
   answers_before Failed says = absurd says
   answers_before OutOfMemory says = tt
 
-  module _ (p : Prepared) (is : IsPrepared contents.space.packages contents.setup order p) where
+  module _ (p : Prepared) (is : IsPrepared contents order p) where
     through : (answer : Answer) → AfterCollect contents files env p.wanted.items (Rest p.list) answer → Before contents order At answer
     through answer later = after_all contents order At is.selected is.whole is.are_selected is.nodes is.means p.list is.planned is.ends answer (subst (λ wanted. AfterCollect contents files env wanted (Rest p.list) answer) is.wanted_are later)
 
-    pub answers_end : (e : PlannerErr) → EndsOrFails (AfterCollect contents files env p.wanted.items NoMore) e → Answers contents order env files (Err e)
+    pub answers_end : (e : Stop) → EndsOrFails (AfterCollect contents files env p.wanted.items NoMore) e → Answers contents order env files (Err e)
     answers_end (Refused reason) says = through (Err reason) (collect_more contents files env p.wanted.items (Rest p.list) (Err reason) says)
     answers_end Failed says = tt
     answers_end OutOfMemory says = tt

@@ -1,12 +1,13 @@
 -- The plan of a run, by the words of the command line, the environment and the repository (Turborepo docs, "run", "Filtering packages" and "Package and
 -- Task Graphs"). What is tried comes in this order: filters, the tasks that are named, what these depend on, cycles, tasks that do not end, and what
 -- collecting the listing answers.
-use Rattle.std.specs.Prelude.{◌≡◌, ◌⊎◌, ℕ, List, [], Option, Some, None, Result, Ok, Err, find, length, slice_get}
+use Rattle.std.specs.Prelude.{◌≡◌, ◌⊎◌, ℕ, Bool, List, [], Option, Some, None, Result, Ok, Err, find, length, slice_get}
 use Rattle.std.specs.Option.{option_map}
 use Rattle.rel_path.specs.Files.{FileMap}
 use Rattle.env_select.specs.Choice.{IsChosen, is_given}
 use Rattle.cli_words.specs.declared.order.RunOrder.{RunOrder}
 use Rattle.workspaces.specs.declared.member.Package.{Package}
+use Rattle.workspaces.specs.Space.{Space}
 use Rattle.turbo_config.specs.declared.entry.TaskDef.{TaskDef}
 use Rattle.turbo_config.specs.declared.task_id.TaskId.{TaskId}
 use Rattle.turbo_config.specs.Setup.{Setup, task_def}
@@ -35,7 +36,7 @@ use Rattle.run_plan.specs.Plans.{given_at}
 use Rattle.repository.specs.Steps.{IsRefusal}
 use Rattle.repository.specs.Reading.{Contents}
 use Rattle.planner.specs.Refusals.{filter_refusal, graph_refusal, collect_refusal}
-use Rattle.planner.specs.Wanted.{named, wanted_of}
+use Rattle.planner.specs.Wanted.{asks_all, named, wanted_of}
 use Rattle.planner.specs.Settings.{mode_of, log_mode_of, env_mode_for}
 
 -- what is answered: a plan or a refusal
@@ -57,8 +58,9 @@ AfterGraphOf (Ok nodes) next answer = next nodes answer
 AfterGraphOf (Err fault) next answer = IsRefusal (graph_refusal fault) answer
 
 -- the task graph of the tasks that are named
-abbrev pub AfterGraph : List Package → Setup → List ℕ → List (List ℕ) → (List Node → Answer → Type 0) → Answer → Type 0
-AfterGraph packages setup selected words next answer = (graph : Result (List Node) GraphErr) × MeansGraph packages setup selected words graph × AfterGraphOf graph next answer
+abbrev pub AfterGraph : Space → Setup → List ℕ → Bool → List (List ℕ) → (List Node → Answer → Type 0) → Answer → Type 0
+AfterGraph space setup selected all words next answer =
+    (graph : Result (List Node) GraphErr) × MeansGraph space setup selected all words graph × AfterGraphOf graph next answer
 
 -- its plan order, or its cycle
 abbrev pub AfterOrder : List Node → (PlanList → Answer → Type 0) → Answer → Type 0
@@ -94,12 +96,17 @@ pub record IsPlanOf (setup : Setup) (order : RunOrder) (env : List (List ℕ × 
   pub logs : plan.logs ≡ option_map log_mode_of order.logs
   pub limit : plan.limit ≡ file_limit
 
+-- the tasks that the order names, in the selected packages and, where nothing is filtered, in the root
+abbrev pub entries_of : Contents → RunOrder → List ℕ → List TaskId
+entries_of contents order selected =
+    named (entry_tasks contents.space contents.setup selected (asks_all order.filters) order.tasks)
+
 -- the plan that the order asks for, or the first reason why there is none
 abbrev pub Plans : Contents → RunOrder → List (List ℕ × List ℕ) → FileMap → Answer → Type 0
 Plans contents order env files answer =
     AfterFilters contents.space.packages order.filters (λ selected.
-    AfterGraph contents.space.packages contents.setup selected order.tasks (λ nodes.
+    AfterGraph contents.space contents.setup selected (asks_all order.filters) order.tasks (λ nodes.
     AfterOrder nodes (λ list.
-    AfterPersistent (find (is_persistent contents.space.packages contents.setup) (ids_of nodes)) (
-    AfterCollect contents files env (wanted_of (named (entry_tasks contents.space.packages contents.setup selected order.tasks)) order.args list) (λ listing end.
+    AfterPersistent (find (is_persistent contents.space contents.setup) (ids_of nodes)) (
+    AfterCollect contents files env (wanted_of (entries_of contents order selected) order.args list) (λ listing end.
     (plan : Plan) × (end ≡ Ok plan) × IsPlanOf contents.setup order env list listing plan))))) answer

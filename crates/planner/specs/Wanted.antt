@@ -1,10 +1,15 @@
 -- The tasks whose parts a run wants (Turborepo docs, "run": words behind `--` go to the scripts of the tasks that are named).
-use Rattle.std.specs.Prelude.{ℕ, List, [], Result, Ok, Err, map, zip, if◌then◌else◌}
+use Rattle.std.specs.Prelude.{ℕ, Bool, true, false, List, [], ◌∷◌, Result, Ok, Err, map, zip, if◌then◌else◌}
 use Rattle.turbo_config.specs.declared.task_id.TaskId.{TaskId}
 use Rattle.task_graph.specs.declared.error.GraphErr.{GraphErr}
 use Rattle.task_graph.specs.declared.plan.PlanList.{PlanList}
 use Rattle.task_graph.specs.Ids.{has}
 use Rattle.collect.specs.declared.wanted.Wanted.{Wanted}
+
+-- no word of `--filter` stands, and so the root is asked for as each package is
+abbrev pub asks_all : List (List ℕ) → Bool
+asks_all [] = true
+asks_all (word ∷ words) = false
 
 -- the tasks that words name, and none where a word names nothing
 abbrev pub named : Result (List TaskId) GraphErr → List TaskId

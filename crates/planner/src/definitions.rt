@@ -4,22 +4,21 @@ ghost use Rattle.std.specs.List.{AllByRecursion};
 ghost use Rattle.turbo_config.specs.Setup.{task_def};
 ghost use Rattle.task_graph.specs.Tasks.{has_def};
 ghost use Rattle.collect.specs.Listings.{ArePaired};
-ghost use Rattle.planner.specs.Steps.{OnlyMemory};
 
-use crate::PlannerErr;
 use run_plan::TaskDefs;
-use std::alloc::Global;
+use std::alloc::{AllocError, Global};
 use turbo_config::{Config, TaskDef, TaskId};
 
 /// The definition of a task that has one.
-fn def_of(alloc: Global, config: &Config, id: &TaskId) -> Result<TaskDef, PlannerErr>
+fn def_of(alloc: Global, config: &Config, id: &TaskId) -> Result<TaskDef, AllocError>
     requires { has_def config.now id.now ≡ true }
-    ensures value { IfOk result (λ def. task_def config.now id.now.«package» id.now.task ≡ Some def) }
-    ensures memory { OnlyMemory result }
+    ensures value { IfOk result
+        (λ def. task_def config.now id.now.«package» id.now.task ≡ Some def) }
 {
-    match config.task_def(alloc, &id.package, &id.task)? {
-        Some(def) => Ok(def),
-        None => unreachable!(),
+    match config.task_def(alloc, &id.package, &id.task) {
+        Ok(Some(def)) => Ok(def),
+        Ok(None) => unreachable!(),
+        Err(_) => Err(AllocError),
     }
 }
 
@@ -28,14 +27,17 @@ pub(crate) fn defs_of(
     alloc: Global,
     config: &Config,
     ids: &[TaskId],
-) -> Result<TaskDefs, PlannerErr>
+) -> Result<TaskDefs, AllocError>
     requires { AllByRecursion (λ id. has_def config.now id ≡ true) ids.now }
-    ensures value { IfOk result (ArePaired (λ id def. task_def config.now id.«package» id.task ≡ Some def) ids.now) }
-    ensures memory { OnlyMemory result }
+    ensures value { IfOk result
+        (ArePaired (λ id def. task_def config.now id.«package» id.task ≡ Some def) ids.now) }
 {
     let mut defs = TaskDefs::new(alloc);
     for id in ids {
-        defs.push(def_of(alloc, config, id)?)?;
+        match defs.push(def_of(alloc, config, id)?) {
+            Ok(()) => {}
+            Err(_) => return Err(AllocError),
+        }
     }
     Ok(defs)
 }

@@ -6,7 +6,6 @@
 
 mod collecting;
 mod definitions;
-mod error;
 mod graphing;
 mod passing;
 mod planning;
@@ -15,5 +14,4 @@ mod selection;
 mod settings;
 mod wanted;
 
-pub use error::PlannerErr;
 pub use planning::plan_run;

@@ -5,15 +5,15 @@ ghost use Rattle.rel_path.specs.Limits.{width_limit};
 ghost use Rattle.rel_path.specs.Paths.{Path};
 ghost use Rattle.tree_dev.specs.Tree.{Looks};
 ghost use Rattle.tree_walk.specs.Walked.{IsWalk};
+ghost use Rattle.workspaces.specs.Space.{AreWalked};
 ghost use Rattle.task_graph.specs.Tasks.{has_def};
 ghost use Rattle.run_plan.specs.Plans.{IsValidPlan};
 ghost use Rattle.run_plan.specs.Openings.{HoldsInputs};
 ghost use Rattle.repository.specs.Reading.{contents_of};
-ghost use Rattle.planner.specs.Answers.{Answers, HasCause};
+ghost use Rattle.refusals.specs.Stops.{HasCause};
+ghost use Rattle.planner.specs.Answers.{Answers};
 ghost use Rattle.planner.specs.Plans.{IsPlanOf};
-ghost use Rattle.planner.specs.Steps.{OnlyMemory};
 
-use crate::PlannerErr;
 use crate::collecting::listing_of;
 use crate::definitions::defs_of;
 use crate::passing::all_given;
@@ -22,11 +22,12 @@ use crate::settings::{env_mode_for, logs_of, mode_of};
 use cli_words::RunOrder;
 use env_select::EnvList;
 use listing::Listing;
+use refusals::Stop;
 use rel_path::Text;
 use rel_path::limits::MAX_FILE_BYTES;
 use repository::Repository;
-use run_plan::{PairLists, Plan, TaskDefs};
-use std::alloc::Global;
+use run_plan::Plan;
+use std::alloc::{AllocError, Global};
 use task_graph::PlanList;
 use tree_dev::Tree;
 use turbo_config::Config;
@@ -39,16 +40,17 @@ fn plan_of(
     env: &[(Text, Text)],
     list: PlanList,
     listing: Listing,
-) -> Result<Plan, PlannerErr>
+) -> Result<Plan, AllocError>
     requires same { length listing.parts ≡ length list.ids }
     requires defined { AllByRecursion (λ id. has_def config.now id ≡ true) list.ids }
     ensures value { IfOk result (IsPlanOf config.now order.now env.now list listing) }
-    ensures memory { OnlyMemory result }
 {
     let defs = defs_of(alloc, config, list.ids.as_slice())?;
     let globals = config.globals();
     let mode = env_mode_for(order.env_word, globals.env_mode);
-    let pass = EnvList::read(alloc, &globals.pass)?;
+    let Ok(pass) = EnvList::read(alloc, &globals.pass) else {
+        return Err(AllocError);
+    };
     let given = all_given(
         alloc,
         mode,
@@ -84,13 +86,15 @@ pub fn plan_run<T: Tree>(
     repository: &Repository,
     order: &RunOrder,
     env: &[(Text, Text)],
-) -> Result<Plan, PlannerErr>
+) -> Result<Plan, Stop>
     requires none { (path : Path) → (T.state tree.old).held path ≡ false }
     requires walk { IsWalk repository.now.walk }
+    requires walked { AreWalked repository.now.walk repository.now.packages.packages }
     requires wide { 0 < order.now.width }
     requires narrow { order.now.width ≤ width_limit }
     ensures looks { Looks (T.state tree.old) (T.state tree.new) }
-    ensures plans { T.tells → Answers (contents_of repository.now) order.now env.now (T.state tree.old).files result }
+    ensures plans { T.tells → Answers (contents_of repository.now) order.now env.now
+        (T.state tree.old).files result }
     ensures valid { IfOk result IsValidPlan }
     ensures inputs { T.tells → IfOk result (λ plan. HoldsInputs plan (T.state tree.old).files) }
     ensures cause { HasCause (T.state tree.old).faults (T.state tree.new).faults result }
@@ -113,6 +117,6 @@ pub fn plan_run<T: Tree>(
         listing,
     ) {
         Ok(plan) => Ok(plan),
-        Err(_) => Err(PlannerErr::OutOfMemory),
+        Err(_) => Err(Stop::OutOfMemory),
     }
 }

@@ -5,12 +5,12 @@ ghost use Rattle.task_graph.specs.Tasks.{has_def};
 ghost use Rattle.repository.specs.Reading.{contents_of};
 ghost use Rattle.planner.specs.Steps.{AreInOrder, Before, Ends, IsPrepared, NoMore};
 
-use crate::PlannerErr;
-use crate::graphing::{check_ends, graph_of, order_of};
-use crate::selection::selected_packages;
-use crate::wanted::{entries_of, wanted_of};
+use crate::graphing::{check_ends, expansion_of, order_of};
+use crate::selection::{asks_all, selected_packages};
+use crate::wanted::{set_of, wanted_of};
 use cli_words::RunOrder;
 use collect::Wanted;
+use refusals::Stop;
 use repository::Repository;
 use std::alloc::Global;
 use task_graph::{PlanList, plan_law, tasks_law};
@@ -28,11 +28,14 @@ pub(crate) fn prepare(
     alloc: Global,
     repository: &Repository,
     order: &RunOrder,
-) -> Result<Prepared, PlannerErr>
-    ensures prepared { IfOk result (IsPrepared repository.now.packages.packages repository.now.config order.now) }
-    ensures ends { IfErr result (Ends (Before (contents_of repository.now) order.now (λ selected. NoMore))) }
-    ensures order { IfOk result (λ p. AreInOrder repository.now.config repository.now.packages.packages p.wanted.items) }
-    ensures defined { IfOk result (λ p. AllByRecursion (λ id. has_def repository.now.config id ≡ true) p.list.ids) }
+) -> Result<Prepared, Stop>
+    ensures prepared { IfOk result (IsPrepared (contents_of repository.now) order.now) }
+    ensures ends { IfErr result
+        (Ends (Before (contents_of repository.now) order.now (λ selected. NoMore))) }
+    ensures order { IfOk result
+        (λ p. AreInOrder repository.now.config repository.now.packages p.wanted.items) }
+    ensures defined { IfOk result
+        (λ p. AllByRecursion (λ id. has_def repository.now.config id ≡ true) p.list.ids) }
     ensures same { IfOk result (λ p. length p.list.deps ≡ length p.list.ids) }
     ensures few { IfOk result (λ p. length p.list.ids < 2 ^ 32) }
 {
@@ -43,10 +46,12 @@ pub(crate) fn prepare(
         Ok(selected) => selected,
         Err(e) => return Err(e),
     };
-    let graph = match graph_of(alloc, &order.tasks, &selected, packages, config) {
-        Ok(graph) => graph,
+    let all = asks_all(&order.filters);
+    let expansion = match expansion_of(alloc, &order.tasks, &selected, all, packages, config) {
+        Ok(expansion) => expansion,
         Err(e) => return Err(e),
     };
+    let graph = expansion.graph;
     let list = match order_of(alloc, &graph) {
         Ok(list) => list,
         Err(e) => return Err(e),
@@ -55,7 +60,7 @@ pub(crate) fn prepare(
         Ok(()) => {}
         Err(e) => return Err(e),
     }
-    let entries = entries_of(alloc, &order.tasks, &selected, packages, config)?;
+    let entries = set_of(alloc, expansion.entries)?;
     let wanted = wanted_of(alloc, &entries, &order.args, &list)?;
     Ok(Prepared { list, wanted })
 }

@@ -4,21 +4,21 @@ ghost use Rattle.filters.specs.Selection.{AreSelectedBy, words_fault};
 ghost use Rattle.planner.specs.Refusals.{filter_refusal};
 ghost use Rattle.planner.specs.Plans.{AfterFilters};
 ghost use Rattle.planner.specs.Steps.{Ends, NoMore, error_of};
+ghost use Rattle.planner.specs.Wanted.{asks_all};
 
-use crate::PlannerErr;
 use filters::{FilterErr, selected};
-use refusals::Refusal;
+use refusals::{Refusal, Stop};
 use rel_path::{Places, Texts};
 use std::alloc::Global;
 use workspaces::Packages;
 
-fn filter_error(fault: FilterErr) -> PlannerErr
+fn filter_error(fault: FilterErr) -> Stop
     ensures { result ≡ error_of (filter_refusal fault) }
 {
     match fault {
-        FilterErr::Unreadable { word } => PlannerErr::Refused(Refusal::Filter { word }),
-        FilterErr::NoPackage { name } => PlannerErr::Refused(Refusal::NoPackage { name }),
-        FilterErr::OutOfMemory => PlannerErr::OutOfMemory,
+        FilterErr::Unreadable { word } => Stop::Refused(Refusal::Filter { word }),
+        FilterErr::NoPackage { name } => Stop::Refused(Refusal::NoPackage { name }),
+        FilterErr::OutOfMemory => Stop::OutOfMemory,
     }
 }
 
@@ -27,13 +27,21 @@ pub(crate) fn selected_packages(
     alloc: Global,
     words: &Texts,
     packages: &Packages,
-) -> Result<Places, PlannerErr>
+) -> Result<Places, Stop>
     ensures { MatchResult result
-        (λ found. (words_fault packages.now.packages words.now ≡ None) × AreSelectedBy packages.now.packages words.now found)
+        (λ found. (words_fault packages.now.packages words.now ≡ None)
+        × AreSelectedBy packages.now.packages words.now found)
         (Ends (AfterFilters packages.now.packages words.now NoMore)) }
 {
     match selected(alloc, words, packages) {
         Ok(found) => Ok(found),
         Err(fault) => Err(filter_error(fault)),
     }
+}
+
+/// Whether no word of `--filter` stands: then the root is asked for as each package is.
+pub(crate) fn asks_all(filters: &Texts) -> bool
+    ensures { result ≡ asks_all filters.now }
+{
+    filters.as_slice().is_empty()
 }

@@ -1,42 +1,19 @@
 // The tasks whose parts a run wants.
 ghost use Rattle.std.specs.Prelude.{◌≡◌, length, IfOk};
 ghost use Rattle.turbo_config.specs.declared.task_id.TaskId.{TaskId};
-ghost use Rattle.workspaces.specs.Reach.{AreBelow};
-ghost use Rattle.task_graph.specs.Entries as graph;
 ghost use Rattle.task_graph.specs.Ids.{has};
 ghost use Rattle.planner.specs.Wanted as spec;
-ghost use Rattle.planner.specs.Steps.{OnlyMemory};
 
-use crate::PlannerErr;
 use collect::Wanted;
 use rel_path::{Places, Texts};
-use std::alloc::Global;
+use std::alloc::{AllocError, Global};
 use std::collections::BTreeSet;
-use task_graph::{PlanList, entry_tasks};
-use turbo_config::{Config, TaskId};
-use workspaces::Packages;
+use task_graph::PlanList;
+use turbo_config::TaskId;
 
-/// The tasks that the words name, which name something each.
-pub(crate) fn entries_of(
-    alloc: Global,
-    words: &Texts,
-    selected: &Places,
-    packages: &Packages,
-    config: &Config,
-) -> Result<BTreeSet<TaskId>, PlannerErr>
-    requires { AreBelow (length packages.now.packages) selected.now }
-    ensures value { IfOk result (λ set. (id : TaskId) → has set.keys id ≡ has (spec.named (graph.entry_tasks packages.now.packages config.now selected.now words.now)) id) }
-    ensures memory { OnlyMemory result }
-{
-    match entry_tasks(alloc, words, selected, packages, config) {
-        Ok(tasks) => set_of(alloc, tasks),
-        Err(_) => Err(PlannerErr::OutOfMemory),
-    }
-}
-
-fn set_of(alloc: Global, tasks: Vec<TaskId>) -> Result<BTreeSet<TaskId>, PlannerErr>
+/// The tasks as a set.
+pub(crate) fn set_of(alloc: Global, tasks: Vec<TaskId>) -> Result<BTreeSet<TaskId>, AllocError>
     ensures value { IfOk result (λ set. (id : TaskId) → has set.keys id ≡ has tasks.items id) }
-    ensures memory { OnlyMemory result }
 {
     let mut set = BTreeSet::new(alloc);
     for task in tasks {
@@ -51,9 +28,9 @@ fn args_for(
     entries: &BTreeSet<TaskId>,
     args: &Texts,
     id: &TaskId,
-) -> Result<Texts, PlannerErr>
-    ensures value { IfOk result (λ words. words ≡ spec.args_for entries.now.keys args.now id.now) }
-    ensures memory { OnlyMemory result }
+) -> Result<Texts, AllocError>
+    ensures value { IfOk result
+        (λ words. words ≡ spec.args_for entries.now.keys args.now id.now) }
 {
     if entries.contains(id) {
         return Ok(args.copy()?);
@@ -67,9 +44,9 @@ fn wanted_at(
     args: &Texts,
     id: &TaskId,
     deps: &Places,
-) -> Result<Wanted, PlannerErr>
-    ensures value { IfOk result (λ wanted. wanted ≡ spec.wanted_at entries.now.keys args.now id.now deps.now) }
-    ensures memory { OnlyMemory result }
+) -> Result<Wanted, AllocError>
+    ensures value { IfOk result
+        (λ wanted. wanted ≡ spec.wanted_at entries.now.keys args.now id.now deps.now) }
 {
     let args = args_for(alloc, entries, args, id)?;
     let package = id.package.copy()?;
@@ -88,10 +65,10 @@ pub(crate) fn wanted_of(
     entries: &BTreeSet<TaskId>,
     args: &Texts,
     list: &PlanList,
-) -> Result<Vec<Wanted>, PlannerErr>
+) -> Result<Vec<Wanted>, AllocError>
     requires { length list.now.deps ≡ length list.now.ids }
-    ensures value { IfOk result (λ wanted. wanted.items ≡ spec.wanted_of entries.now.keys args.now list.now) }
-    ensures memory { OnlyMemory result }
+    ensures value { IfOk result
+        (λ wanted. wanted.items ≡ spec.wanted_of entries.now.keys args.now list.now) }
 {
     let deps = list.deps.as_slice();
     let mut wanted = Vec::new(alloc);

@@ -19,13 +19,15 @@ fn bare(alloc: Global, name: &str) -> Result<String, AllocError>
 }
 
 fn numbered(alloc: Global, name: &str, number: u64) -> Result<String, AllocError>
-    ensures text { IfOk result (λ text. string_bytes text ≡ name.now ++ (codes " " ++ decimal number)) }
+    ensures text { IfOk result (λ text. string_bytes text
+        ≡ name.now ++ (codes " " ++ decimal number)) }
 {
     Ok(format!(in alloc; "{name} {number}")?)
 }
 
 fn named(alloc: Global, name: &str, text: &Text) -> Result<String, AllocError>
-    ensures text { IfOk result (λ line. string_bytes line ≡ name.now ++ (codes " " ++ text.now)) }
+    ensures text { IfOk result (λ line. string_bytes line
+        ≡ name.now ++ (codes " " ++ text.now)) }
 {
     let text = text.as_str();
     Ok(format!(in alloc; "{name} {text}")?)

@@ -1,7 +1,7 @@
 // The line of each refusal.
 ghost use Rattle.std.specs.Prelude.{◌≡◌, ◌++◌, IfOk, string_bytes, codes, decimal};
 ghost use Rattle.refusals.specs.Refusals.{refusal_text, line_of};
-ghost use Rattle.page.specs.Tasks.{path_text, task_name, joined};
+ghost use Rattle.page.specs.Tasks.{path_text};
 
 use crate::Refusal;
 use crate::faults::{config_fault, glob_fault, lock_fault, manifest_fault, words_fault};
@@ -38,7 +38,8 @@ fn too_many(alloc: Global) -> Result<String, AllocError>
 
 // What is wrong with a file.
 fn of_file(alloc: Global, path: &RelPath, fault: &str) -> Result<String, AllocError>
-    ensures text { IfOk result (λ text. string_bytes text ≡ path_text path.now ++ (codes ": " ++ fault.now)) }
+    ensures text { IfOk result (λ text. string_bytes text
+        ≡ path_text path.now ++ (codes ": " ++ fault.now)) }
 {
     let path = path.text(alloc)?;
     let path = path.as_str();
@@ -47,7 +48,8 @@ fn of_file(alloc: Global, path: &RelPath, fault: &str) -> Result<String, AllocEr
 
 // Two packages of which one lies inside the other.
 fn inside(alloc: Global, outer: &RelPath, inner: &RelPath) -> Result<String, AllocError>
-    ensures text { IfOk result (λ text. string_bytes text ≡ codes "package " ++ (path_text inner.now ++ (codes " lies inside " ++ path_text outer.now))) }
+    ensures text { IfOk result (λ text. string_bytes text
+        ≡ refusal_text (Refusal.Inside outer.now inner.now)) }
 {
     let outer = outer.text(alloc)?;
     let outer = outer.as_str();
@@ -62,7 +64,8 @@ fn name_twice(
     first: &RelPath,
     second: &RelPath,
 ) -> Result<String, AllocError>
-    ensures text { IfOk result (λ text. string_bytes text ≡ codes "name " ++ (name.now ++ (codes " in " ++ (path_text first.now ++ (codes " and " ++ path_text second.now))))) }
+    ensures text { IfOk result (λ text. string_bytes text
+        ≡ refusal_text (Refusal.NameTwice name.now first.now second.now)) }
 {
     let name = name.as_str();
     let first = first.text(alloc)?;
@@ -79,7 +82,8 @@ fn at_pointer(
     pointer: &Text,
     fault: &str,
 ) -> Result<String, AllocError>
-    ensures text { IfOk result (λ text. string_bytes text ≡ path_text path.now ++ (codes ": " ++ (pointer.now ++ (codes ": " ++ fault.now)))) }
+    ensures text { IfOk result (λ text. string_bytes text
+        ≡ path_text path.now ++ (codes ": " ++ (pointer.now ++ (codes ": " ++ fault.now)))) }
 {
     let path = path.text(alloc)?;
     let path = path.as_str();
@@ -88,7 +92,8 @@ fn at_pointer(
 }
 
 fn no_dependency(alloc: Global, task: &TaskId, text: &Text) -> Result<String, AllocError>
-    ensures text { IfOk result (λ line. string_bytes line ≡ task_name task.now ++ (codes ": no dependency " ++ text.now)) }
+    ensures text { IfOk result (λ line. string_bytes line
+        ≡ refusal_text (Refusal.NoSuchDependency task.now text.now)) }
 {
     let task = task_name(alloc, task)?;
     let task = task.as_str();
@@ -97,21 +102,23 @@ fn no_dependency(alloc: Global, task: &TaskId, text: &Text) -> Result<String, Al
 }
 
 fn cycle(alloc: Global, tasks: &TaskIds) -> Result<String, AllocError>
-    ensures text { IfOk result (λ text. string_bytes text ≡ codes "cycle: " ++ joined (codes " -> ") tasks.now) }
+    ensures text { IfOk result (λ text. string_bytes text ≡ refusal_text (Refusal.Cycle tasks.now)) }
 {
     let tasks = joined(alloc, " -> ", tasks.as_slice())?;
     behind(alloc, "cycle: ", tasks.as_str())
 }
 
 fn persistent(alloc: Global, task: &TaskId) -> Result<String, AllocError>
-    ensures text { IfOk result (λ text. string_bytes text ≡ codes "persistent task " ++ task_name task.now) }
+    ensures text { IfOk result (λ text. string_bytes text
+        ≡ refusal_text (Refusal.Persistent task.now)) }
 {
     let task = task_name(alloc, task)?;
     behind(alloc, "persistent task ", task.as_str())
 }
 
 fn lock_missing(alloc: Global, from: &Text, name: &Text) -> Result<String, AllocError>
-    ensures text { IfOk result (λ text. string_bytes text ≡ codes "lock: " ++ (name.now ++ (codes " not found from " ++ from.now))) }
+    ensures text { IfOk result (λ text. string_bytes text
+        ≡ refusal_text (Refusal.LockMissing from.now name.now)) }
 {
     let from = from.as_str();
     let name = name.as_str();

@@ -1,10 +1,10 @@
 // The limits of the program, each stated once.
 
-/// The most bytes of a file that is read whole: 16 MiB.
-pub const MAX_FILE_BYTES: u64 = 16 * 1024 * 1024;
+/// The most bytes of a file that is read whole: 256 MiB.
+pub const MAX_FILE_BYTES: u64 = 256 * 1024 * 1024;
 
-/// The most bytes of all distinct input files together: 64 MiB.
-pub const MAX_INPUT_BYTES: u64 = 64 * 1024 * 1024;
+/// The most bytes of all distinct input files together: 1 GiB.
+pub const MAX_INPUT_BYTES: u64 = 1024 * 1024 * 1024;
 
 /// The most bytes of a command's log: 64 MiB.
 pub const MAX_LOG_BYTES: usize = 64 * 1024 * 1024;

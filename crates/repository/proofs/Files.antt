@@ -5,8 +5,8 @@ use Rattle.rel_path.specs.Paths.{Path}
 use Rattle.rel_path.specs.Files.{FileMap}
 use Rattle.turbo_config.specs.declared.files.PackageConfig.{PackageConfig}
 use Rattle.refusals.specs.declared.refusal.Refusal.{Refusal}
-use Rattle.repository.specs.declared.error.RepositoryErr.{RepositoryErr}
-use Rattle.repository.specs.declared.error.RepositoryErr.TheVariants.{Refused, Failed, OutOfMemory}
+use Rattle.refusals.specs.declared.stop.Stop.{Stop}
+use Rattle.refusals.specs.declared.stop.Stop.TheVariants.{Refused, Failed, OutOfMemory}
 use Rattle.repository.specs.Reading.{package_config, package_configs, and_more}
 use Rattle.repository.specs.Answers.{Stops, named}
 
@@ -37,7 +37,7 @@ module _ (files : FileMap) (all left later : List (Path × List ℕ)) (home : Pa
   unfolding package_configs
   refused reason before next here = before ∙ rw (next, here) refl
 
-  pub stopped_at : (e : RepositoryErr) → package_configs files all ≡ and_then done (package_configs files left) → left ≡ home ∷ later → Stops (package_config files home.0) e → Stops (package_configs files all) e
+  pub stopped_at : (e : Stop) → package_configs files all ≡ and_then done (package_configs files left) → left ≡ home ∷ later → Stops (package_config files home.0) e → Stops (package_configs files all) e
   stopped_at (Refused reason) before next here = refused reason before next here
   stopped_at Failed before next here = tt
   stopped_at OutOfMemory before next here = tt

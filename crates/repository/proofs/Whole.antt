@@ -9,8 +9,8 @@ use Rattle.workspaces.specs.declared.error.SpaceErr.{SpaceErr}
 use Rattle.workspaces.specs.Space.{Space, space_of}
 use Rattle.turbo_config.specs.Setup.{Setup}
 use Rattle.refusals.specs.declared.refusal.Refusal.{Refusal}
-use Rattle.repository.specs.declared.error.RepositoryErr.{RepositoryErr}
-use Rattle.repository.specs.declared.error.RepositoryErr.TheVariants.{Refused, Failed, OutOfMemory}
+use Rattle.refusals.specs.declared.stop.Stop.{Stop}
+use Rattle.refusals.specs.declared.stop.Stop.TheVariants.{Refused, Failed, OutOfMemory}
 use Rattle.repository.specs.Steps.{After, IsRefusal, space_refusal}
 use Rattle.repository.specs.Reading.{Contents, root_manifest, lockfile, setup_in, AfterWalk, AfterSpace, Means}
 use Rattle.repository.specs.Answers.{Reads, Stops, AnswersWalk, AnswersSpace}
@@ -53,7 +53,7 @@ module _ (files : FileMap) where
       after_lock : (answer : Result Contents Refusal) → FromLock root lock answer → Means files answer
       after_lock answer rest = after_root answer (on (FromLock root) (lockfile files) lock answer is_lock rest)
 
-      pub stop_walk : (e : RepositoryErr) → AnswersWalk files (Err e) → Reads files (Err e)
+      pub stop_walk : (e : Stop) → AnswersWalk files (Err e) → Reads files (Err e)
       stop_walk (Refused reason) (fault, walks, is) = after_lock (Err reason) (Err fault, walks, subst (λ r. IsRefusal {B = Contents} r (Err reason)) (sym is) refl)
       stop_walk Failed here = tt
       stop_walk OutOfMemory here = tt
@@ -62,7 +62,7 @@ module _ (files : FileMap) where
         after_walk : (answer : Result Contents Refusal) → FromWalk root lock walk answer → Means files answer
         after_walk answer rest = after_lock answer (Ok walk, is_walk, rest)
 
-        pub stop_packages : (e : RepositoryErr) → AnswersSpace (space_of files walk root) (Err e) → Reads files (Err e)
+        pub stop_packages : (e : Stop) → AnswersSpace (space_of files walk root) (Err e) → Reads files (Err e)
         stop_packages (Refused reason) (fault, meant, is) = after_walk (Err reason) (stop_space (FromSpace walk lock) (space_of files walk root) fault reason meant is)
         stop_packages Failed here = tt
         stop_packages OutOfMemory here = tt
@@ -71,7 +71,7 @@ module _ (files : FileMap) where
           after_space : (answer : Result Contents Refusal) → FromSpace walk lock space answer → Means files answer
           after_space answer rest = after_walk answer (on_space (FromSpace walk lock) (space_of files walk root) space answer is_space rest)
 
-          pub stop_setup : (e : RepositoryErr) → Stops (setup_in files space.packages) e → Reads files (Err e)
+          pub stop_setup : (e : Stop) → Stops (setup_in files space.packages) e → Reads files (Err e)
           stop_setup (Refused reason) here = after_space (Err reason) (stop (FromSetup walk lock space) (setup_in files space.packages) reason here)
           stop_setup Failed here = tt
           stop_setup OutOfMemory here = tt

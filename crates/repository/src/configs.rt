@@ -4,12 +4,11 @@ ghost use Rattle.std.specs.List.{flat_map};
 ghost use Rattle.rel_path.specs.Paths.{Path};
 ghost use Rattle.tree_dev.specs.Tree.{Looks};
 ghost use Rattle.turbo_config.specs.Files.{root_of, package_of};
-ghost use Rattle.repository.specs.Cause.{HasCause, OnlyMemory};
+ghost use Rattle.refusals.specs.Stops.{HasCause, OnlyMemory};
 ghost use Rattle.repository.specs.Reading.{config_in, config_at, root_config, package_config, package_configs, homes_of, own_configs, script_names, setup_in};
 ghost use Rattle.repository.specs.Answers.{Answers, AnswersAs, config_stop, named};
 
-use crate::RepositoryErr;
-use refusals::Refusal;
+use refusals::{Refusal, Stop};
 use rel_path::limits::MAX_FILE_BYTES;
 use rel_path::{RelPath, Text, Texts};
 use std::alloc::Global;
@@ -18,32 +17,28 @@ use tree_dev::{DevErr, Found, Tree};
 use turbo_config::{Config, ConfigErr, PackageConfig, RootConfig};
 use workspaces::Packages;
 
-fn config_refused(path: RelPath, fault: ConfigErr) -> RepositoryErr
+fn config_refused(path: RelPath, fault: ConfigErr) -> Stop
     ensures { result ≡ config_stop path fault }
 {
     match fault {
-        ConfigErr::OutOfMemory => RepositoryErr::OutOfMemory,
-        ConfigErr::Glob { pointer, fault } => RepositoryErr::Refused(Refusal::Glob {
+        ConfigErr::OutOfMemory => Stop::OutOfMemory,
+        ConfigErr::Glob { pointer, fault } => Stop::Refused(Refusal::Glob {
             path,
             pointer,
             fault,
         }),
-        fault => RepositoryErr::Refused(Refusal::Config { path, fault }),
+        fault => Stop::Refused(Refusal::Config { path, fault }),
     }
 }
 
 /// The root's turbo.json by what was found at its path.
-fn root_config_at(
-    alloc: Global,
-    path: RelPath,
-    found: Found,
-) -> Result<Option<RootConfig>, RepositoryErr>
+fn root_config_at(alloc: Global, path: RelPath, found: Found) -> Result<Option<RootConfig>, Stop>
     ensures answers { Answers (config_at root_of path found) result }
     ensures no_failure { HasCause 0 0 result }
 {
     match found {
         Found::Absent => Ok(None),
-        Found::TooLong => Err(RepositoryErr::Refused(Refusal::TooLarge { path })),
+        Found::TooLong => Err(Stop::Refused(Refusal::TooLarge { path })),
         Found::Here(bytes) => match RootConfig::read(alloc, bytes.as_slice()) {
             Ok(file) => Ok(Some(file)),
             Err(fault) => Err(config_refused(path, fault)),
@@ -56,13 +51,13 @@ fn package_config_at(
     alloc: Global,
     path: RelPath,
     found: Found,
-) -> Result<Option<PackageConfig>, RepositoryErr>
+) -> Result<Option<PackageConfig>, Stop>
     ensures answers { Answers (config_at package_of path found) result }
     ensures no_failure { HasCause 0 0 result }
 {
     match found {
         Found::Absent => Ok(None),
-        Found::TooLong => Err(RepositoryErr::Refused(Refusal::TooLarge { path })),
+        Found::TooLong => Err(Stop::Refused(Refusal::TooLarge { path })),
         Found::Here(bytes) => match PackageConfig::read(alloc, bytes.as_slice()) {
             Ok(file) => Ok(Some(file)),
             Err(fault) => Err(config_refused(path, fault)),
@@ -72,7 +67,7 @@ fn package_config_at(
 
 /// The root's turbo.json, if there is one.
 #[tactic(auto, unfolding(crate::specs::Reading::root_config))]
-fn root_config<T: Tree>(alloc: Global, tree: &mut T) -> Result<Option<RootConfig>, RepositoryErr>
+fn root_config<T: Tree>(alloc: Global, tree: &mut T) -> Result<Option<RootConfig>, Stop>
     requires none { (path : Path) → (T.state tree.old).held path ≡ false }
     ensures looks { Looks (T.state tree.old) (T.state tree.new) }
     ensures answers { T.tells → Answers (root_config (T.state tree.old).files) result }
@@ -80,12 +75,12 @@ fn root_config<T: Tree>(alloc: Global, tree: &mut T) -> Result<Option<RootConfig
 {
     let path = match RelPath::root(alloc).join(alloc, "turbo.json") {
         Ok(path) => path,
-        Err(_) => return Err(RepositoryErr::OutOfMemory),
+        Err(_) => return Err(Stop::OutOfMemory),
     };
     match tree.read(alloc, &path, MAX_FILE_BYTES) {
         Ok(found) => root_config_at(alloc, path, found),
-        Err(DevErr::Failed) => Err(RepositoryErr::Failed),
-        Err(DevErr::OutOfMemory) => Err(RepositoryErr::OutOfMemory),
+        Err(DevErr::Failed) => Err(Stop::Failed),
+        Err(DevErr::OutOfMemory) => Err(Stop::OutOfMemory),
     }
 }
 
@@ -95,20 +90,21 @@ fn package_config<T: Tree>(
     alloc: Global,
     tree: &mut T,
     folder: &RelPath,
-) -> Result<Option<PackageConfig>, RepositoryErr>
+) -> Result<Option<PackageConfig>, Stop>
     requires none { (path : Path) → (T.state tree.old).held path ≡ false }
     ensures looks { Looks (T.state tree.old) (T.state tree.new) }
-    ensures answers { T.tells → Answers (package_config (T.state tree.old).files folder.now) result }
+    ensures answers { T.tells
+        → Answers (package_config (T.state tree.old).files folder.now) result }
     ensures cause { HasCause (T.state tree.old).faults (T.state tree.new).faults result }
 {
     let path = match folder.join(alloc, "turbo.json") {
         Ok(path) => path,
-        Err(_) => return Err(RepositoryErr::OutOfMemory),
+        Err(_) => return Err(Stop::OutOfMemory),
     };
     match tree.read(alloc, &path, MAX_FILE_BYTES) {
         Ok(found) => package_config_at(alloc, path, found),
-        Err(DevErr::Failed) => Err(RepositoryErr::Failed),
-        Err(DevErr::OutOfMemory) => Err(RepositoryErr::OutOfMemory),
+        Err(DevErr::Failed) => Err(Stop::Failed),
+        Err(DevErr::OutOfMemory) => Err(Stop::OutOfMemory),
     }
 }
 
@@ -117,7 +113,7 @@ fn push_named(
     files: &mut Vec<(Text, PackageConfig)>,
     name: &Text,
     file: Option<PackageConfig>,
-) -> Result<(), RepositoryErr>
+) -> Result<(), Stop>
     ensures pushed { OnOk result (files.new.items ≡ files.old.items ++ named name.now file) }
     ensures memory { OnlyMemory result }
 {
@@ -132,10 +128,11 @@ fn package_configs<T: Tree>(
     alloc: Global,
     tree: &mut T,
     homes: &[(RelPath, Text)],
-) -> Result<Vec<(Text, PackageConfig)>, RepositoryErr>
+) -> Result<Vec<(Text, PackageConfig)>, Stop>
     requires none { (path : Path) → (T.state tree.old).held path ≡ false }
     ensures looks { Looks (T.state tree.old) (T.state tree.new) }
-    ensures answers { T.tells → AnswersAs (λ files. files.items) (package_configs (T.state tree.old).files homes.now) result }
+    ensures answers { T.tells → AnswersAs (λ files. files.items)
+        (package_configs (T.state tree.old).files homes.now) result }
     ensures cause { HasCause (T.state tree.old).faults (T.state tree.new).faults result }
 {
     let mut files = Vec::new(alloc);
@@ -146,17 +143,14 @@ fn package_configs<T: Tree>(
         };
         match push_named(&mut files, &home.1, file) {
             Ok(()) => {}
-            Err(_) => return Err(RepositoryErr::OutOfMemory),
+            Err(_) => return Err(Stop::OutOfMemory),
         }
     }
     Ok(files)
 }
 
 /// The packages' names by their folders. They are put in from the last package on, as the order by folders is defined.
-fn names_by_folder(
-    alloc: Global,
-    packages: &Packages,
-) -> Result<BTreeMap<RelPath, Text>, RepositoryErr>
+fn names_by_folder(alloc: Global, packages: &Packages) -> Result<BTreeMap<RelPath, Text>, Stop>
     ensures value { IfOk result (λ names. names.entries ≡ homes_of packages.now.packages) }
     ensures memory { OnlyMemory result }
 {
@@ -168,7 +162,7 @@ fn names_by_folder(
 }
 
 /// The packages' folders and names, in the order of the folders.
-fn homes_of(alloc: Global, packages: &Packages) -> Result<Vec<(RelPath, Text)>, RepositoryErr>
+fn homes_of(alloc: Global, packages: &Packages) -> Result<Vec<(RelPath, Text)>, Stop>
     ensures value { IfOk result (λ homes. homes.items ≡ homes_of packages.now.packages) }
     ensures memory { OnlyMemory result }
 {
@@ -183,10 +177,11 @@ fn own_configs<T: Tree>(
     tree: &mut T,
     packages: &Packages,
     root: &Option<RootConfig>,
-) -> Result<Vec<(Text, PackageConfig)>, RepositoryErr>
+) -> Result<Vec<(Text, PackageConfig)>, Stop>
     requires none { (path : Path) → (T.state tree.old).held path ≡ false }
     ensures looks { Looks (T.state tree.old) (T.state tree.new) }
-    ensures answers { T.tells → AnswersAs (λ files. files.items) (own_configs (T.state tree.old).files packages.now.packages root.now) result }
+    ensures answers { T.tells → AnswersAs (λ files. files.items)
+        (own_configs (T.state tree.old).files packages.now.packages root.now) result }
     ensures cause { HasCause (T.state tree.old).faults (T.state tree.new).faults result }
 {
     if root.is_none() {
@@ -194,13 +189,13 @@ fn own_configs<T: Tree>(
     }
     let homes = match homes_of(alloc, packages) {
         Ok(homes) => homes,
-        Err(_) => return Err(RepositoryErr::OutOfMemory),
+        Err(_) => return Err(Stop::OutOfMemory),
     };
     package_configs(alloc, tree, homes.as_slice())
 }
 
 /// Adds the names of these scripts.
-fn add_names(names: &mut Texts, scripts: &[(Text, Text)]) -> Result<(), RepositoryErr>
+fn add_names(names: &mut Texts, scripts: &[(Text, Text)]) -> Result<(), Stop>
     ensures added { OnOk result (names.new ≡ names.old ++ map (λ script. script.0) scripts.now) }
     ensures memory { OnlyMemory result }
 {
@@ -211,7 +206,7 @@ fn add_names(names: &mut Texts, scripts: &[(Text, Text)]) -> Result<(), Reposito
 }
 
 /// The names of the scripts of all packages.
-fn script_names(alloc: Global, packages: &Packages) -> Result<Texts, RepositoryErr>
+fn script_names(alloc: Global, packages: &Packages) -> Result<Texts, Stop>
     ensures value { IfOk result (λ names. names ≡ script_names packages.now.packages) }
     ensures memory { OnlyMemory result }
 {
@@ -229,10 +224,11 @@ pub(crate) fn setup_in<T: Tree>(
     alloc: Global,
     tree: &mut T,
     packages: &Packages,
-) -> Result<Config, RepositoryErr>
+) -> Result<Config, Stop>
     requires none { (path : Path) → (T.state tree.old).held path ≡ false }
     ensures looks { Looks (T.state tree.old) (T.state tree.new) }
-    ensures answers { T.tells → Answers (setup_in (T.state tree.old).files packages.now.packages) result }
+    ensures answers { T.tells
+        → Answers (setup_in (T.state tree.old).files packages.now.packages) result }
     ensures cause { HasCause (T.state tree.old).faults (T.state tree.new).faults result }
 {
     let root = match root_config(alloc, tree) {
@@ -245,10 +241,10 @@ pub(crate) fn setup_in<T: Tree>(
     };
     let scripts = match script_names(alloc, packages) {
         Ok(scripts) => scripts,
-        Err(_) => return Err(RepositoryErr::OutOfMemory),
+        Err(_) => return Err(Stop::OutOfMemory),
     };
     match Config::new(alloc, root, own, scripts) {
         Ok(config) => Ok(config),
-        Err(_) => Err(RepositoryErr::OutOfMemory),
+        Err(_) => Err(Stop::OutOfMemory),
     }
 }

@@ -5,13 +5,11 @@
 #![tactic(auto)]
 
 mod configs;
-mod error;
 mod lockfile;
 mod reading;
 mod repository;
 mod root_manifest;
 mod space;
 
-pub use error::RepositoryErr;
 pub use reading::read_repository;
 pub use repository::Repository;

@@ -3,14 +3,16 @@ ghost use Rattle.std.specs.Prelude.{◌≡◌, false, IfOk};
 ghost use Rattle.rel_path.specs.Paths.{Path};
 ghost use Rattle.tree_dev.specs.Tree.{Looks};
 ghost use Rattle.tree_walk.specs.Walked.{IsWalk};
-ghost use Rattle.repository.specs.Cause.{HasCause};
+ghost use Rattle.workspaces.specs.Space.{AreWalked};
+ghost use Rattle.refusals.specs.Stops.{HasCause};
 ghost use Rattle.repository.specs.Answers.{Reads};
 
+use crate::Repository;
 use crate::configs::setup_in;
 use crate::lockfile::lockfile;
 use crate::root_manifest::root_manifest;
 use crate::space::{space_of, walked};
-use crate::{Repository, RepositoryErr};
+use refusals::Stop;
 use std::alloc::Global;
 use tree_dev::Tree;
 
@@ -25,12 +27,13 @@ use tree_dev::Tree;
 /// 7. where it is there, the packages' in the order of their folders, of which any may be missing: `TooLarge`, and
 ///    `Config` or `Glob`.
 ///
-/// A file of more than 16 MiB is `TooLarge`. The tree is only looked at.
-pub fn read_repository<T: Tree>(alloc: Global, tree: &mut T) -> Result<Repository, RepositoryErr>
+/// A file of more than 256 MiB is `TooLarge`. The tree is only looked at.
+pub fn read_repository<T: Tree>(alloc: Global, tree: &mut T) -> Result<Repository, Stop>
     requires none { (path : Path) → (T.state tree.old).held path ≡ false }
     ensures looks { Looks (T.state tree.old) (T.state tree.new) }
     ensures reads { T.tells → Reads (T.state tree.old).files result }
     ensures walk { IfOk result (λ r. IsWalk r.walk) }
+    ensures walked { IfOk result (λ r. AreWalked r.walk r.packages.packages) }
     ensures cause { HasCause (T.state tree.old).faults (T.state tree.new).faults result }
 {
     let root = match root_manifest(alloc, tree) {

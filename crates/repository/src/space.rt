@@ -4,33 +4,32 @@ ghost use Rattle.rel_path.specs.Paths.{Path};
 ghost use Rattle.tree_dev.specs.Tree.{Looks};
 ghost use Rattle.manifest.specs.Manifest.{AreAscending};
 ghost use Rattle.tree_walk.specs.Walked.{IsWalk};
-ghost use Rattle.workspaces.specs.Space.{manifest_name, space_of};
+ghost use Rattle.workspaces.specs.Space.{manifest_name, space_of, AreWalked};
 ghost use Rattle.repository.specs.Steps.{at_root};
-ghost use Rattle.repository.specs.Cause.{HasCause};
+ghost use Rattle.refusals.specs.Stops.{HasCause};
 ghost use Rattle.repository.specs.Answers.{AnswersWalk, AnswersSpace, walk_stop, space_stop};
 
-use crate::RepositoryErr;
 use manifest::Manifest;
-use refusals::Refusal;
+use refusals::{Refusal, Stop};
 use rel_path::{Paths, RelPath};
 use std::alloc::Global;
 use tree_dev::Tree;
 use tree_walk::{WalkErr, walk};
 use workspaces::{Packages, SpaceErr, discover};
 
-fn walk_refused(fault: WalkErr) -> RepositoryErr
+fn walk_refused(fault: WalkErr) -> Stop
     ensures { result ≡ walk_stop fault }
 {
     match fault {
-        WalkErr::TooDeep { path } => RepositoryErr::Refused(Refusal::TooDeep { path }),
-        WalkErr::TooMany => RepositoryErr::Refused(Refusal::TooMany),
-        WalkErr::Failed => RepositoryErr::Failed,
-        WalkErr::OutOfMemory => RepositoryErr::OutOfMemory,
+        WalkErr::TooDeep { path } => Stop::Refused(Refusal::TooDeep { path }),
+        WalkErr::TooMany => Stop::Refused(Refusal::TooMany),
+        WalkErr::Failed => Stop::Failed,
+        WalkErr::OutOfMemory => Stop::OutOfMemory,
     }
 }
 
 /// The walked files. The refusals: `TooDeep`, `TooMany`.
-pub(crate) fn walked<T: Tree>(alloc: Global, tree: &mut T) -> Result<Paths, RepositoryErr>
+pub(crate) fn walked<T: Tree>(alloc: Global, tree: &mut T) -> Result<Paths, Stop>
     requires none { (path : Path) → (T.state tree.old).held path ≡ false }
     ensures looks { Looks (T.state tree.old) (T.state tree.new) }
     ensures answers { T.tells → AnswersWalk (T.state tree.old).files result }
@@ -43,7 +42,7 @@ pub(crate) fn walked<T: Tree>(alloc: Global, tree: &mut T) -> Result<Paths, Repo
     }
 }
 
-fn space_refused(manifest: RelPath, fault: SpaceErr) -> RepositoryErr
+fn space_refused(manifest: RelPath, fault: SpaceErr) -> Stop
     requires { manifest ≡ at_root manifest_name }
     ensures { result ≡ space_stop fault }
 {
@@ -65,10 +64,10 @@ fn space_refused(manifest: RelPath, fault: SpaceErr) -> RepositoryErr
             first,
             second,
         },
-        SpaceErr::Failed => return RepositoryErr::Failed,
-        SpaceErr::OutOfMemory => return RepositoryErr::OutOfMemory,
+        SpaceErr::Failed => return Stop::Failed,
+        SpaceErr::OutOfMemory => return Stop::OutOfMemory,
     };
-    RepositoryErr::Refused(reason)
+    Stop::Refused(reason)
 }
 
 /// The packages of the workspace. The refusals: `Glob`, `TooLarge` and `Manifest`, `Inside`, `NameTwice`.
@@ -77,16 +76,18 @@ pub(crate) fn space_of<T: Tree>(
     tree: &mut T,
     root: Manifest,
     walk: &Paths,
-) -> Result<Packages, RepositoryErr>
+) -> Result<Packages, Stop>
     requires root { AreAscending root }
     requires none { (path : Path) → (T.state tree.old).held path ≡ false }
     ensures looks { Looks (T.state tree.old) (T.state tree.new) }
-    ensures answers { T.tells → AnswersSpace (space_of (T.state tree.old).files walk.now root) result }
+    ensures answers { T.tells
+        → AnswersSpace (space_of (T.state tree.old).files walk.now root) result }
+    ensures walked { IfOk result (λ packages. AreWalked walk.now packages.packages) }
     ensures cause { HasCause (T.state tree.old).faults (T.state tree.new).faults result }
 {
     let manifest = match RelPath::root(alloc).join(alloc, "package.json") {
         Ok(path) => path,
-        Err(_) => return Err(RepositoryErr::OutOfMemory),
+        Err(_) => return Err(Stop::OutOfMemory),
     };
     match discover(alloc, tree, root, walk) {
         Ok(packages) => Ok(packages),

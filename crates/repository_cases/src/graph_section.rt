@@ -9,7 +9,7 @@ use rel_path::{Places, Text, Texts};
 use repository::Repository;
 use serde_json::{Value, json};
 use std::alloc::Global;
-use task_graph::{Graph, GraphErr, Node, PlanList, expand};
+use task_graph::{Expansion, Graph, GraphErr, Node, PlanList, expand};
 use turbo_config::TaskId;
 use workspaces::Packages;
 
@@ -34,16 +34,12 @@ fn graph_of(
     alloc: Global,
     repository: &Repository,
     names: &[Text],
+    all: bool,
     words: &Texts,
-) -> Result<Result<Graph, GraphErr>> {
-    let places = selected(alloc, &repository.packages, names)?;
-    Ok(expand(
-        alloc,
-        words,
-        &places,
-        &repository.packages,
-        &repository.config,
-    ))
+) -> Result<Result<Expansion, GraphErr>> {
+    let (packages, config) = (&repository.packages, &repository.config);
+    let places = selected(alloc, packages, names)?;
+    Ok(expand(alloc, words, &places, all, packages, config))
 }
 
 fn no_dependency(alloc: Global, task: &TaskId, text: &Text) -> Result<Value> {
@@ -101,8 +97,15 @@ fn staying(alloc: Global, graph: &Graph, repository: &Repository) -> Result<Valu
     }
 }
 
-fn value(alloc: Global, call: &str, graph: &Graph, repository: &Repository) -> Result<Value> {
+fn value(
+    alloc: Global,
+    call: &str,
+    expansion: &Expansion,
+    repository: &Repository,
+) -> Result<Value> {
+    let graph = &expansion.graph;
     match call {
+        "entries" => task_values(alloc, expansion.entries.as_slice()),
         "graph" => nodes_value(alloc, graph.nodes()),
         "order" => order_value(alloc, graph),
         "staying" => staying(alloc, graph, repository),
@@ -114,8 +117,9 @@ pub fn answer(alloc: Global, case: &Value) -> Result<Value> {
     let repository = repository_of(alloc, case)?;
     let names = inputs::texts(alloc, case, "selected")?;
     let words = inputs::texts(alloc, case, "tasks")?;
-    match graph_of(alloc, &repository, names.as_slice(), &words)? {
-        Ok(graph) => value(alloc, inputs::text(case, "call")?, &graph, &repository),
+    let all = inputs::flag(case, "all")?;
+    match graph_of(alloc, &repository, names.as_slice(), all, &words)? {
+        Ok(found) => value(alloc, inputs::text(case, "call")?, &found, &repository),
         Err(error) => refusal(alloc, &error),
     }
 }

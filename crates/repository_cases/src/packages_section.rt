@@ -135,8 +135,8 @@ fn edges_of(alloc: Global, space: &Packages, p: u32) -> Result<Value>
 }
 
 fn root_edges(alloc: Global, space: &Packages) -> Result<Value> {
-    let edges = names_at(alloc, space, space.root_edges())?;
-    let needs = needs_value(alloc, space.root_needs())?;
+    let edges = names_at(alloc, space, space.edges(space.count()))?;
+    let needs = needs_value(alloc, space.needs(space.count()))?;
     Ok(json!(in alloc; {"root": true, "edges": edges, "needs": needs})?)
 }
 

@@ -3,16 +3,17 @@ ghost use Rattle.std.specs.Prelude.{◌≡◌, ◌<◌, ◌≤◌, false, IfOk};
 ghost use Rattle.rel_path.specs.Limits.{width_limit};
 ghost use Rattle.rel_path.specs.Paths.{Path};
 ghost use Rattle.tree_walk.specs.Walked.{IsWalk};
+ghost use Rattle.workspaces.specs.Space.{AreWalked};
 
 use crate::repositories::files_of;
 use anyhow::{Result, bail};
 use case_files::inputs;
 use cli_words::{Order, RunOrder};
-use planner::{PlannerErr, plan_run};
-use refusals::Refusal;
+use planner::plan_run;
+use refusals::{Refusal, Stop};
 use rel_path::Text;
 use rel_path::limits::MAX_WIDTH;
-use repository::{Repository, RepositoryErr, read_repository};
+use repository::{Repository, read_repository};
 use run_plan::Plan;
 use serde_json::Value;
 use std::alloc::Global;
@@ -49,10 +50,12 @@ fn order_of(alloc: Global, case: &Value) -> Result<RunOrder>
 }
 
 // The repository, of which no more is known than a plan asks for.
-fn repository_in<T: Tree>(alloc: Global, tree: &mut T) -> Result<Repository, RepositoryErr>
+fn repository_in<T: Tree>(alloc: Global, tree: &mut T) -> Result<Repository, Stop>
     requires none { (path : Path) → (T.state tree.old).held path ≡ false }
     ensures none { (path : Path) → (T.state tree.new).held path ≡ false }
     ensures walk { IfOk result (λ repository. IsWalk repository.walk) }
+    ensures walked { IfOk result (λ repository.
+        AreWalked repository.walk repository.packages.packages) }
 {
     match read_repository(alloc, tree) {
         Ok(repository) => Ok(repository),
@@ -70,12 +73,13 @@ fn plan_in<T: Tree>(
 ) -> Answer
     requires none { (path : Path) → (T.state tree.old).held path ≡ false }
     requires walk { IsWalk repository.now.walk }
+    requires walked { AreWalked repository.now.walk repository.now.packages.packages }
     requires wide { 0 < order.now.width }
     requires narrow { order.now.width ≤ width_limit }
 {
     match plan_run(alloc, tree, repository, order, env) {
         Ok(plan) => Answer::Planned(plan),
-        Err(PlannerErr::Refused(refusal)) => Answer::Refused(refusal),
+        Err(Stop::Refused(refusal)) => Answer::Refused(refusal),
         Err(_) => Answer::Failed,
     }
 }

@@ -1,9 +1,9 @@
 // Repositories in memory, as cases write them.
 use anyhow::{Result, bail};
 use case_files::{answers, inputs};
-use refusals::{Refusal, fault_text};
+use refusals::{Refusal, Stop, fault_text};
 use rel_path::{Bytes, Files, Text};
-use repository::{Repository, RepositoryErr, read_repository};
+use repository::{Repository, read_repository};
 use serde_json::{Value, json};
 use std::alloc::Global;
 use tree_dev::MemTree;
@@ -52,7 +52,7 @@ pub fn fails_of(alloc: Global, case: &Value) -> Result<Vec<u64>> {
 }
 
 /// What is read of the case's files.
-pub fn reading_of(alloc: Global, case: &Value) -> Result<Result<Repository, RepositoryErr>> {
+pub fn reading_of(alloc: Global, case: &Value) -> Result<Result<Repository, Stop>> {
     let files = files_of(alloc, case)?;
     let mut tree = MemTree::new(alloc, files, fails_of(alloc, case)?);
     Ok(read_repository(alloc, &mut tree))

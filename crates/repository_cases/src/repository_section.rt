@@ -2,7 +2,8 @@
 use crate::repositories::{reading_of, refused};
 use anyhow::{Result, bail};
 use case_files::answers;
-use repository::{Repository, RepositoryErr};
+use refusals::Stop;
+use repository::Repository;
 use serde_json::{Value, json};
 use std::alloc::Global;
 use workspaces::Packages;
@@ -28,8 +29,8 @@ fn parts(alloc: Global, repository: &Repository) -> Result<Value> {
 pub fn answer(alloc: Global, case: &Value) -> Result<Value> {
     match reading_of(alloc, case)? {
         Ok(repository) => parts(alloc, &repository),
-        Err(RepositoryErr::Refused(refusal)) => refused(alloc, &refusal),
-        Err(RepositoryErr::Failed) => answers::error(alloc, "Failed"),
-        Err(RepositoryErr::OutOfMemory) => bail!("out of memory"),
+        Err(Stop::Refused(refusal)) => refused(alloc, &refusal),
+        Err(Stop::Failed) => answers::error(alloc, "Failed"),
+        Err(Stop::OutOfMemory) => bail!("out of memory"),
     }
 }

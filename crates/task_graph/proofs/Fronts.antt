@@ -11,7 +11,7 @@ use Rattle.std.specs.BTreeSet.{insert_key}
 use Rattle.std.proofs.lemmas.Bool.{false≢true}
 use Rattle.turbo_config.specs.Setup.{Setup}
 use Rattle.turbo_config.specs.declared.task_id.TaskId.{TaskId}
-use Rattle.workspaces.specs.declared.member.Package.{Package}
+use Rattle.workspaces.specs.Space.{Space}
 use Rattle.workspaces.specs.Lists.{Has, put_in}
 use Rattle.task_graph.specs.declared.edges.Row.{Row}
 use Rattle.task_graph.specs.Ids.{id_cmp, has}
@@ -62,19 +62,19 @@ has_put ids id x among = has-from (insert_key id_cmp ids id) x (subst (λ xs. Ha
 
 -- ---- a task is looked at
 
-module _ (packages : List Package) (config : Setup) where
-  pub row_found : (ids : List TaskId) (rows : List (TaskId × Row)) (id : TaskId) → AreRowsOf packages config ids rows → is_some (lookup (is_at (id_cmp id)) rows) ≡ has ids id
-  row_found ids rows id are = ap (λ es. is_some (lookup (is_at (id_cmp id)) es)) are ∙ found_row (row_of packages config) ids id
+module _ (space : Space) (config : Setup) where
+  pub row_found : (ids : List TaskId) (rows : List (TaskId × Row)) (id : TaskId) → AreRowsOf space config ids rows → is_some (lookup (is_at (id_cmp id)) rows) ≡ has ids id
+  row_found ids rows id are = ap (λ es. is_some (lookup (is_at (id_cmp id)) es)) are ∙ found_row (row_of space config) ids id
 
-  pub row_put : (ids : List TaskId) (rows : List (TaskId × Row)) (id : TaskId) → AreRowsOf packages config ids rows → AreRowsOf packages config (insert_key id_cmp ids id) (insert_entry id_cmp rows id (row_of packages config id))
-  row_put ids rows id are = ap (λ es. insert_entry id_cmp es id (row_of packages config id)) are ∙ put_row (row_of packages config) ids id
+  pub row_put : (ids : List TaskId) (rows : List (TaskId × Row)) (id : TaskId) → AreRowsOf space config ids rows → AreRowsOf space config (insert_key id_cmp ids id) (insert_entry id_cmp rows id (row_of space config id))
+  row_put ids rows id are = ap (λ es. insert_entry id_cmp es id (row_of space config id)) are ∙ put_row (row_of space config) ids id
 
   -- what was found with what waits is closed, and within every closed set
   pub record Reaches (starts ids waiting : List TaskId) : Type 0 where
     pub ascend : IsStrictlySortedBy id_cmp ids
     pub start : (id : TaskId) → has starts id ≡ true → (has ids id ≡ true) ⊎ (has waiting id ≡ true)
-    pub edge : (id next : TaskId) → has ids id ≡ true → has (edges packages config id) next ≡ true → (has ids next ≡ true) ⊎ (has waiting next ≡ true)
-    pub within : (other : TaskId → Bool) → IsClosed packages config starts other → (id : TaskId) → (has ids id ≡ true) ⊎ (has waiting id ≡ true) → other id ≡ true
+    pub edge : (id next : TaskId) → has ids id ≡ true → has (edges space config id) next ≡ true → (has ids next ≡ true) ⊎ (has waiting next ≡ true)
+    pub within : (other : TaskId → Bool) → IsClosed space config starts other → (id : TaskId) → (has ids id ≡ true) ⊎ (has waiting id ≡ true) → other id ≡ true
 
   module _ (starts ids waiting : List TaskId) (task : TaskId) (reaches : Reaches starts ids (waiting ++ task ∷ [])) where
     split : (id : TaskId) → has (waiting ++ task ∷ []) id ≡ true → (has waiting id ≡ true) ⊎ (task ≡ id)
@@ -99,30 +99,30 @@ module _ (packages : List Package) (config : Setup) where
       still id (inr waits) = elim (split id waits) [ inl is ↦ inr is | inr here ↦ inl (subst (λ x. has ids x ≡ true) here known) ]
 
     -- and one that is new
-    pub reaches_new : Reaches starts (insert_key id_cmp ids task) (waiting ++ edges packages config task)
+    pub reaches_new : Reaches starts (insert_key id_cmp ids task) (waiting ++ edges space config task)
     reaches_new = record {
       ascend = put_up ids task reaches.ascend;
       start = λ id is. still id (reaches.start id is);
       edge = λ id next is lead. edge id next (put_has ids task id is) lead;
       within = λ other closed id among. within other closed id among;
     } where
-      still : (id : TaskId) → (has ids id ≡ true) ⊎ (has (waiting ++ task ∷ []) id ≡ true) → (has (insert_key id_cmp ids task) id ≡ true) ⊎ (has (waiting ++ edges packages config task) id ≡ true)
+      still : (id : TaskId) → (has ids id ≡ true) ⊎ (has (waiting ++ task ∷ []) id ≡ true) → (has (insert_key id_cmp ids task) id ≡ true) ⊎ (has (waiting ++ edges space config task) id ≡ true)
       still id (inl is) = inl (has_put ids task id (inr is))
-      still id (inr waits) = elim (split id waits) [ inl is ↦ inr (has-append waiting (edges packages config task) id ∙ or_left (has waiting id) (has (edges packages config task) id) is) | inr here ↦ inl (has_put ids task id (inl here)) ]
+      still id (inr waits) = elim (split id waits) [ inl is ↦ inr (has-append waiting (edges space config task) id ∙ or_left (has waiting id) (has (edges space config task) id) is) | inr here ↦ inl (has_put ids task id (inl here)) ]
 
-      edge : (id next : TaskId) → (task ≡ id) ⊎ (has ids id ≡ true) → has (edges packages config id) next ≡ true → (has (insert_key id_cmp ids task) next ≡ true) ⊎ (has (waiting ++ edges packages config task) next ≡ true)
-      edge id next (inl here) lead = inr (has-append waiting (edges packages config task) next ∙ or_right (has waiting next) (has (edges packages config task) next) (subst (λ x. has (edges packages config x) next ≡ true) (sym here) lead))
+      edge : (id next : TaskId) → (task ≡ id) ⊎ (has ids id ≡ true) → has (edges space config id) next ≡ true → (has (insert_key id_cmp ids task) next ≡ true) ⊎ (has (waiting ++ edges space config task) next ≡ true)
+      edge id next (inl here) lead = inr (has-append waiting (edges space config task) next ∙ or_right (has waiting next) (has (edges space config task) next) (subst (λ x. has (edges space config x) next ≡ true) (sym here) lead))
       edge id next (inr old) lead = still next (reaches.edge id next old lead)
 
-      within : (other : TaskId → Bool) → IsClosed packages config starts other → (id : TaskId) → (has (insert_key id_cmp ids task) id ≡ true) ⊎ (has (waiting ++ edges packages config task) id ≡ true) → other id ≡ true
+      within : (other : TaskId → Bool) → IsClosed space config starts other → (id : TaskId) → (has (insert_key id_cmp ids task) id ≡ true) ⊎ (has (waiting ++ edges space config task) id ≡ true) → other id ≡ true
       within other closed id (inl is) = elim (put_has ids task id is) [ inl here ↦ subst (λ x. other x ≡ true) here (reaches.within other closed task (inr task_waits)) | inr old ↦ reaches.within other closed id (inl old) ]
-      within other closed id (inr is) = elim (or_cases (has waiting id) (has (edges packages config task) id) (sym (has-append waiting (edges packages config task) id) ∙ is)) [
+      within other closed id (inr is) = elim (or_cases (has waiting id) (has (edges space config task) id) (sym (has-append waiting (edges space config task) id) ∙ is)) [
         | inl old ↦ reaches.within other closed id (inr (has-append waiting (task ∷ []) id ∙ or_left (has waiting id) (has (task ∷ []) id) old))
         | inr lead ↦ closed.edge task id (reaches.within other closed task (inr task_waits)) lead
       ]
 
   -- nothing waits
-  pub reaches_last : (starts ids : List TaskId) → Reaches starts ids [] → AreTasks packages config starts ids
+  pub reaches_last : (starts ids : List TaskId) → Reaches starts ids [] → AreTasks space config starts ids
   reaches_last starts ids reaches = record {
     ascend = reaches.ascend;
     least = (
@@ -140,12 +140,12 @@ module _ (packages : List Package) (config : Setup) where
   -- what the invariant says
   pub record Reaching (starts : List TaskId) (rows : List (TaskId × Row)) (waiting : List TaskId) : Type 0 where
     pub ids : List TaskId
-    pub are : AreRowsOf packages config ids rows
+    pub are : AreRowsOf space config ids rows
     pub reaches : Reaches starts ids waiting
 
   pub reaching_more : (starts : List TaskId) (rows : List (TaskId × Row)) (waiting : List TaskId) (task : TaskId) (new : List (TaskId × Row)) (new_waiting : List TaskId)
-      → Reaching starts rows (waiting ++ task ∷ []) → Visits packages config task rows waiting new new_waiting → Reaching starts new new_waiting
+      → Reaching starts rows (waiting ++ task ∷ []) → Visits space config task rows waiting new new_waiting → Reaching starts new new_waiting
   reaching_more starts rows waiting task new new_waiting reaching visits = by (has reaching.ids task) refl (visits reaching.ids reaching.are) where
-    by : (t : Bool) → has reaching.ids task ≡ t → AreRowsOf packages config (cond t reaching.ids (insert_key id_cmp reaching.ids task)) new × (new_waiting ≡ cond t waiting (waiting ++ edges packages config task)) → Reaching starts new new_waiting
+    by : (t : Bool) → has reaching.ids task ≡ t → AreRowsOf space config (cond t reaching.ids (insert_key id_cmp reaching.ids task)) new × (new_waiting ≡ cond t waiting (waiting ++ edges space config task)) → Reaching starts new new_waiting
     by true e after = record { ids = reaching.ids; are = after.0; reaches = subst (Reaches starts reaching.ids) (sym after.1) (reaches_known starts reaching.ids waiting task reaching.reaches e) }
     by false e after = record { ids = insert_key id_cmp reaching.ids task; are = after.0; reaches = subst (Reaches starts (insert_key id_cmp reaching.ids task)) (sym after.1) (reaches_new starts reaching.ids waiting task reaching.reaches) }

@@ -38,10 +38,10 @@ self_place p = by (eqb_tells p p) where
 
 -- ---- one mark
 
-pub other_place : (p q : ℕ) → p ≢ q → (p == q) ≡ false
+other_place : (p q : ℕ) → p ≢ q → (p == q) ≡ false
 other_place p q apart = ne_eqb p q apart
 
-pub same_suc : (p q : ℕ) → (p == q) ≡ (suc p == suc q)
+same_suc : (p q : ℕ) → (p == q) ≡ (suc p == suc q)
 same_suc p q = by (eqb_tells p q) where
   by : ((eqb p q ≡ true) × (p ≡ q)) ⊎ ((eqb p q ≡ false) × (p ≢ q)) → (p == q) ≡ (suc p == suc q)
   by (inl same) = rw (same.1, self_place q, self_place (suc q)) refl

@@ -7,7 +7,7 @@ use Rattle.std.specs.Ordering.{ordering_reverse}
 use Rattle.std.proofs.lemmas.Bool.{false≢true}
 use Rattle.turbo_config.specs.Setup.{Setup}
 use Rattle.turbo_config.specs.declared.task_id.TaskId.{TaskId}
-use Rattle.workspaces.specs.declared.member.Package.{Package}
+use Rattle.workspaces.specs.Space.{Space}
 use Rattle.task_graph.specs.declared.error.GraphErr.{GraphErr}
 use Rattle.task_graph.specs.declared.node.Node.{Node}
 use Rattle.task_graph.specs.Ids.{id_cmp, has}
@@ -22,21 +22,21 @@ use Rattle.task_graph.proofs.Circling.{within_taken}
 
 -- ---- one graph
 
-one_list : (packages : List Package) (config : Setup) (starts one other : List TaskId) → AreTasks packages config starts one → AreTasks packages config starts other → one ≡ other
-one_list packages config starts one other a b =
+one_list : (space : Space) (config : Setup) (starts one other : List TaskId) → AreTasks space config starts one → AreTasks space config starts other → one ≡ other
+one_list space config starts one other a b =
     same_ascending id_cmp id_total one other a.ascend b.ascend
     (λ id there. from-has other id (a.least.1 (has other) b.least.0 id (has-from one id there)))
     (λ id there. from-has one id (b.least.1 (has one) a.least.0 id (has-from other id there)))
 
-from_one : (packages : List Package) (config : Setup) (starts : List TaskId) (one other : Result (List Node) GraphErr) → IsGraphFrom packages config starts one → IsGraphFrom packages config starts other → one ≡ other
-from_one packages config starts one other a b = sym a.nodes ∙ (ap (nodes_of packages config) (one_list packages config starts a.ids b.ids a.are b.are) ∙ b.nodes)
+from_one : (space : Space) (config : Setup) (starts : List TaskId) (one other : Result (List Node) GraphErr) → IsGraphFrom space config starts one → IsGraphFrom space config starts other → one ≡ other
+from_one space config starts one other a b = sym a.nodes ∙ (ap (nodes_of space config) (one_list space config starts a.ids b.ids a.are b.are) ∙ b.nodes)
 
-pub one_graph : (packages : List Package) (config : Setup) (selected : List ℕ) (words : List (List ℕ)) (one other : Result (List Node) GraphErr)
-    → Means packages config selected words one → Means packages config selected words other → one ≡ other
-one_graph packages config selected words one other = by (entry_tasks packages config selected words) where
-  by : (named : Result (List TaskId) GraphErr) → MeansFrom packages config named one → MeansFrom packages config named other → one ≡ other
+pub one_graph : (space : Space) (config : Setup) (selected : List ℕ) (all : Bool) (words : List (List ℕ)) (one other : Result (List Node) GraphErr)
+    → Means space config selected all words one → Means space config selected all words other → one ≡ other
+one_graph space config selected all words one other = by (entry_tasks space config selected all words) where
+  by : (named : Result (List TaskId) GraphErr) → MeansFrom space config named one → MeansFrom space config named other → one ≡ other
   by (Err fault) a b = sym a ∙ b
-  by (Ok starts) a b = from_one packages config starts one other a b
+  by (Ok starts) a b = from_one space config starts one other a b
 
 -- ---- one order
 

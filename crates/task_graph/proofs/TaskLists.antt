@@ -10,15 +10,15 @@ use Rattle.workspaces.specs.Steps.{name_at}
 use Rattle.task_graph.specs.Ids.{task_id}
 use Rattle.task_graph.specs.Tasks.{has_def, tasks_in}
 
-module _ (packages : List Package) (config : Setup) (places : List ℕ) (name : List ℕ) (tasks : List TaskId) (i : ℕ) where
-  -- one more package, with a definition
-  pub tasks_added : i < length places → has_def config (task_id (name_at packages (get_or places i 0)) name) ≡ true
-      → (tasks ++ task_id (name_at packages (get_or places i 0)) name ∷ []) ++ tasks_in packages config (drop (i + 1) places) name ≡ tasks ++ tasks_in packages config (drop i places) name
-  tasks_added less e = rw (drop_more places i 0 less, e) (append_assoc tasks (task_id (name_at packages (get_or places i 0)) name ∷ []) (tasks_in packages config (drop (i + 1) places) name))
+module _ (owners : List Package) (config : Setup) (places : List ℕ) (name : List ℕ) (tasks : List TaskId) (i : ℕ) where
+  -- one more owner, with a definition
+  pub tasks_added : i < length places → has_def config (task_id (name_at owners (get_or places i 0)) name) ≡ true
+      → (tasks ++ task_id (name_at owners (get_or places i 0)) name ∷ []) ++ tasks_in owners config (drop (i + 1) places) name ≡ tasks ++ tasks_in owners config (drop i places) name
+  tasks_added less e = rw (drop_more places i 0 less, e) (append_assoc tasks (task_id (name_at owners (get_or places i 0)) name ∷ []) (tasks_in owners config (drop (i + 1) places) name))
 
   -- and without one
-  pub tasks_passed : i < length places → has_def config (task_id (name_at packages (get_or places i 0)) name) ≡ false
-      → tasks ++ tasks_in packages config (drop (i + 1) places) name ≡ tasks ++ tasks_in packages config (drop i places) name
+  pub tasks_passed : i < length places → has_def config (task_id (name_at owners (get_or places i 0)) name) ≡ false
+      → tasks ++ tasks_in owners config (drop (i + 1) places) name ≡ tasks ++ tasks_in owners config (drop i places) name
   tasks_passed less e = rw (drop_more places i 0 less, e) refl
 
 -- the first of two that is there

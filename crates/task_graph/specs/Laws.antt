@@ -5,8 +5,8 @@ use Rattle.std.specs.List.Sorted.{IsStrictlySortedBy}
 use Rattle.std.specs.Ordering.{nat_cmp}
 use Rattle.turbo_config.specs.Setup.{Setup}
 use Rattle.turbo_config.specs.declared.task_id.TaskId.{TaskId}
-use Rattle.workspaces.specs.declared.member.Package.{Package}
 use Rattle.workspaces.specs.Reach.{AreBelow}
+use Rattle.workspaces.specs.Space.{Space}
 use Rattle.task_graph.specs.declared.error.GraphErr.{GraphErr}
 use Rattle.task_graph.specs.declared.node.Node.{Node}
 use Rattle.task_graph.specs.declared.plan.PlanList.{PlanList}
@@ -16,15 +16,16 @@ use Rattle.task_graph.specs.Plans.{IsPlanOrder, IsPlan}
 use Rattle.task_graph.specs.Cycles.{IsCycle}
 
 pub record GraphLaw : Type 0 where
-  pub graph : (packages : List Package) (config : Setup) (selected : List ℕ) (words : List (List ℕ)) (one other : Result (List Node) GraphErr)
-      → Means packages config selected words one → Means packages config selected words other → one ≡ other
+  pub graph : (space : Space) (config : Setup) (selected : List ℕ) (all : Bool) (words : List (List ℕ)) (one other : Result (List Node) GraphErr)
+      → Means space config selected all words one → Means space config selected all words other → one ≡ other
   pub order : (nodes : List Node) (one other : List TaskId) → IsPlanOrder nodes one → IsPlanOrder nodes other → one ≡ other
   pub cycle : (nodes : List Node) (ids cycle : List TaskId) → IsPlanOrder nodes ids → IsCycle nodes cycle → ⊥
 
 -- the tasks of a graph that words name are ones that the repository has
 abbrev pub TasksLaw : Type 0
-TasksLaw = (packages : List Package) (config : Setup) (selected : List ℕ) (words : List (List ℕ)) (nodes : List Node) → AreBelow (length packages) selected
-    → Means packages config selected words (Ok nodes) → AllByRecursion (λ node. is_task packages config node.id ≡ true) nodes
+TasksLaw = (space : Space) (config : Setup) (selected : List ℕ) (all : Bool) (words : List (List ℕ)) (nodes : List Node)
+    → AreBelow (length space.packages) selected
+    → Means space config selected all words (Ok nodes) → AllByRecursion (λ node. is_task space config node.id ≡ true) nodes
 
 -- planned tasks differ, and what each task of the graph passes each of them passes; each has its row of places, which ascend
 pub record PlanLaw : Type 0 where

@@ -7,7 +7,7 @@ ghost use Rattle.task_graph.specs.Edges as spec;
 ghost use Rattle.task_graph.specs.Memory.{OnlyMemory};
 
 use crate::GraphErr;
-use crate::lookup::{add_tasks, full_id, has_def, is_task, package_by};
+use crate::lookup::{add_tasks, full_id, has_def, is_task};
 use crate::node::listed;
 use rel_path::Text;
 use std::alloc::Global;
@@ -21,7 +21,7 @@ pub(crate) struct Row {
     pub(crate) refused: Option<Text>,
 }
 
-/// Adds the task of that name in each package that a package depends on, where it has a definition.
+/// Adds the task of that name in each package that an owner depends on, where it has a definition.
 #[tactic(auto, unfolding(crate::specs::Edges::upstream))]
 fn add_upstream(
     alloc: Global,
@@ -31,17 +31,18 @@ fn add_upstream(
     name: &Text,
     tasks: &mut Vec<TaskId>,
 ) -> Result<(), GraphErr>
-    ensures added { OnOk result (tasks.new.items ≡ tasks.old.items ++ spec.upstream packages.now.packages config.now «package».now name.now) }
+    ensures added { OnOk result (tasks.new.items ≡ tasks.old.items
+        ++ spec.upstream packages.now config.now «package».now name.now) }
     ensures memory { OnlyMemory result }
 {
-    let Some(p) = package_by(packages, package) else {
+    let Some(owner) = packages.owner_of(package) else {
         return Ok(());
     };
     add_tasks(
         alloc,
         packages,
         config,
-        packages.edges(p).as_slice(),
+        packages.edges(owner).as_slice(),
         name,
         tasks,
     )
@@ -57,8 +58,10 @@ fn add_text(
     text: &Text,
     tasks: &mut Vec<TaskId>,
 ) -> Result<bool, GraphErr>
-    ensures added { OnOk result (tasks.new.items ≡ tasks.old.items ++ spec.text_tasks packages.now.packages config.now id.now text.now) }
-    ensures refused { IfOk result (λ refused. refused ≡ spec.is_refused packages.now.packages config.now id.now text.now) }
+    ensures added { OnOk result (tasks.new.items ≡ tasks.old.items
+        ++ spec.text_tasks packages.now config.now id.now text.now) }
+    ensures refused { IfOk result (λ refused. refused
+        ≡ spec.is_refused packages.now config.now id.now text.now) }
     ensures memory { OnlyMemory result }
 {
     if let Some(name) = behind_caret(alloc, text.as_str())? {
@@ -113,8 +116,10 @@ fn add_texts(
     texts: &[Text],
     tasks: &mut Vec<TaskId>,
 ) -> Result<Option<Text>, GraphErr>
-    ensures added { OnOk result (tasks.new.items ≡ tasks.old.items ++ spec.tasks_of packages.now.packages config.now id.now texts.now) }
-    ensures refused { IfOk result (λ refused. refused ≡ find (spec.is_refused packages.now.packages config.now id.now) texts.now) }
+    ensures added { OnOk result (tasks.new.items ≡ tasks.old.items
+        ++ spec.tasks_of packages.now config.now id.now texts.now) }
+    ensures refused { IfOk result (λ refused. refused
+        ≡ find (spec.is_refused packages.now config.now id.now) texts.now) }
     ensures memory { OnlyMemory result }
 {
     let mut refused = None;
@@ -134,7 +139,7 @@ pub(crate) fn row_of(
     config: &Config,
     id: &TaskId,
 ) -> Result<Row, GraphErr>
-    ensures value { IfOk result (λ row. row ≡ spec.row_of packages.now.packages config.now id.now) }
+    ensures value { IfOk result (λ row. row ≡ spec.row_of packages.now config.now id.now) }
     ensures memory { OnlyMemory result }
 {
     let mut tasks = Vec::new(alloc);

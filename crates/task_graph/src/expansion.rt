@@ -30,28 +30,39 @@ fn nodes_of(alloc: Global, rows: Vec<(TaskId, Row)>) -> Result<Vec<Node>, GraphE
     Ok(nodes)
 }
 
-/// The task graph of the words' tasks: these, and with each task what its `dependsOn` says.
+/// The tasks that the words of a run name, word by word, and the graph from them.
+#[derive(Debug, Drop)]
+pub struct Expansion {
+    pub entries: Vec<TaskId>,
+    pub graph: Graph,
+}
+
+/// The tasks that the words name, and the task graph from them: these tasks, and with each task what its `dependsOn` says.
 ///
-/// A word `task` names that task of each selected package that has a definition of it; a word `package#task` names that
-/// task. `NoSuchTask` comes for the first word that names nothing. In `dependsOn` the text `^task` stands for that task of
-/// each package that the task's own depends on and that has a definition of it, `package#task` for that task, and `task` for
-/// that of the same package. Where there is none, `task` is passed over if the root has a key `package#task` of it;
-/// otherwise `NoSuchDependency` comes, for the least task of the graph and its first such text.
+/// A word `task` names that task of each selected package that has a definition of it and, where `all` holds, `//#task` if
+/// the root has one: `all` says that no filter stands. A word `package#task` names that task, `//#task` among them,
+/// whatever is selected. `NoSuchTask` comes for the first word that names nothing. In `dependsOn` the text `^task` stands
+/// for that task of each package that the task's own, or the root's manifest for a task of the root, depends on and that
+/// has a definition of it, `package#task` for that task, `//#task` among them, and `task` for that of the same package.
+/// Where there is none, `task` is passed over if the root has a key `package#task` of it; otherwise `NoSuchDependency`
+/// comes, for the least task of the graph and its first such text.
 pub fn expand(
     alloc: Global,
-    entries: &Texts,
+    words: &Texts,
     selected: &Places,
+    all: bool,
     packages: &Packages,
     config: &Config,
-) -> Result<Graph, GraphErr>
+) -> Result<Expansion, GraphErr>
     requires { AreBelow (length packages.now.packages) selected.now }
-    ensures { Expands packages.now.packages config.now selected.now entries.now result }
+    ensures { Expands packages.now config.now selected.now all words.now result }
 {
-    let starts = entry_tasks(alloc, entries, selected, packages, config)?;
-    let rows = reached(alloc, packages, config, starts)?;
+    let entries = entry_tasks(alloc, words, selected, all, packages, config)?;
+    let rows = reached(alloc, packages, config, entries.as_slice())?;
     let nodes = nodes_of(alloc, rows)?;
     if nodes.len() > u32::MAX as usize {
         return Err(GraphErr::OutOfMemory);
     }
-    Ok(Graph::new(nodes))
+    let graph = Graph::new(nodes);
+    Ok(Expansion { entries, graph })
 }

@@ -78,7 +78,8 @@ impl Graph {
         config: &Config,
         packages: &Packages,
     ) -> Result<Option<TaskId>, GraphErr>
-        ensures value { IfOk result (λ found. found ≡ find (is_persistent packages.now.packages config.now) (ids_of self.now)) }
+        ensures value { IfOk result (λ found. found
+            ≡ find (is_persistent packages.now config.now) (ids_of self.now)) }
         ensures memory { OnlyMemory result }
     {
         for node in self.nodes() {

@@ -6,7 +6,7 @@ pub fn graph_law()
     ensures { GraphLaw }
 {}
 
-/// Each task of a graph has a package that is there and a definition in it.
+/// Each task of a graph has a definition, and its package is there or it is one of the root.
 pub fn tasks_law()
     ensures { TasksLaw }
 {}

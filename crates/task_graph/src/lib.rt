@@ -18,11 +18,9 @@ mod reached;
 mod rows;
 mod slots;
 mod sorting;
-mod users;
 
-pub use entries::entry_tasks;
 pub use error::GraphErr;
-pub use expansion::expand;
+pub use expansion::{Expansion, expand};
 pub use graph::Graph;
 pub use laws::{graph_law, plan_law, tasks_law};
 pub use lists::PlaceLists;

@@ -1,35 +1,15 @@
-// Packages by name, and which tasks they have.
+// Which tasks there are.
 ghost use Rattle.workspaces.specs.Reach.{AreBelow};
-ghost use Rattle.std.specs.Prelude.{◌≡◌, ◌<◌, ◌++◌, length, IfOk, OnOk, MatchOption, None, Some, if◌then◌else◌};
-ghost use Rattle.std.specs.List.{HoldsAt};
+ghost use Rattle.workspaces.specs.Space.{owners};
+ghost use Rattle.std.specs.Prelude.{◌≡◌, ◌++◌, length, IfOk, OnOk, None, Some, if◌then◌else◌};
 ghost use Rattle.task_graph.specs.Tasks as spec;
 ghost use Rattle.task_graph.specs.Memory.{OnlyMemory};
 
 use crate::GraphErr;
 use rel_path::Text;
 use std::alloc::Global;
-use std::cmp::Ordering;
 use turbo_config::{Config, TaskId};
 use workspaces::Packages;
-
-/// The number of the package of that name.
-pub(crate) fn package_by(packages: &Packages, name: &Text) -> Option<u32>
-    ensures { MatchOption result
-        (spec.package_named packages.now.packages name.now ≡ None)
-        (λ p. (p < length packages.now.packages) × HoldsAt (λ member. spec.package_named packages.now.packages name.now ≡ Some member) packages.now.packages p) }
-{
-    let mut low = 0;
-    let mut high = packages.count();
-    while low < high {
-        let middle = low + (high - low) / 2;
-        match packages.name(middle).cmp(name) {
-            Ordering::Less => low = middle + 1,
-            Ordering::Equal => return Some(middle),
-            Ordering::Greater => high = middle,
-        }
-    }
-    None
-}
 
 /// Whether the task has a definition.
 pub(crate) fn has_def(alloc: Global, config: &Config, id: &TaskId) -> Result<bool, GraphErr>
@@ -40,17 +20,17 @@ pub(crate) fn has_def(alloc: Global, config: &Config, id: &TaskId) -> Result<boo
     Ok(def.is_some())
 }
 
-/// Whether its package is there and has a definition of it.
+/// Whether its package is there, or it is one of the root, and it has a definition.
 pub(crate) fn is_task(
     alloc: Global,
     packages: &Packages,
     config: &Config,
     id: &TaskId,
 ) -> Result<bool, GraphErr>
-    ensures value { IfOk result (λ is. is ≡ spec.is_task packages.now.packages config.now id.now) }
+    ensures value { IfOk result (λ is. is ≡ spec.is_task packages.now config.now id.now) }
     ensures memory { OnlyMemory result }
 {
-    if package_by(packages, &id.package).is_none() {
+    if packages.owner_of(&id.package).is_none() {
         return Ok(false);
     }
     has_def(alloc, config, id)
@@ -71,7 +51,7 @@ pub(crate) fn full_id(alloc: Global, text: &str) -> Result<Option<TaskId>, Graph
     }
 }
 
-/// Adds the task of that name of each of these packages, where it has a definition.
+/// Adds the task of that name of each of these owners, where it has a definition.
 pub(crate) fn add_tasks(
     alloc: Global,
     packages: &Packages,
@@ -80,12 +60,13 @@ pub(crate) fn add_tasks(
     name: &Text,
     tasks: &mut Vec<TaskId>,
 ) -> Result<(), GraphErr>
-    requires { AreBelow (length packages.now.packages) places.now }
-    ensures added { OnOk result (tasks.new.items ≡ tasks.old.items ++ spec.tasks_in packages.now.packages config.now places.now name.now) }
+    requires { AreBelow (length (owners packages.now)) places.now }
+    ensures added { OnOk result (tasks.new.items ≡ tasks.old.items
+        ++ spec.tasks_in (owners packages.now) config.now places.now name.now) }
     ensures memory { OnlyMemory result }
 {
-    for p in places {
-        let package = packages.name(*p).copy()?;
+    for owner in places {
+        let package = packages.name(*owner).copy()?;
         let task = name.copy()?;
         let id = TaskId { package, task };
         if has_def(alloc, config, &id)? {

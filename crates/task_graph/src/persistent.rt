@@ -5,7 +5,6 @@ ghost use Rattle.task_graph.specs.Persistent as spec;
 ghost use Rattle.task_graph.specs.Memory.{OnlyMemory};
 
 use crate::GraphErr;
-use crate::lookup::package_by;
 use rel_path::{Pairs, Text};
 use std::alloc::Global;
 use turbo_config::{Config, TaskId};
@@ -22,12 +21,12 @@ fn has_name(pairs: &Pairs, name: &Text) -> bool
     false
 }
 
-/// Whether the manifest of the task's package has a script of the task's name.
+/// Whether the manifest of the task's package, or the root's for a task of the root, has a script of the task's name.
 pub(crate) fn has_script(packages: &Packages, id: &TaskId) -> bool
-    ensures { result ≡ spec.has_script packages.now.packages id.now }
+    ensures { result ≡ spec.has_script packages.now id.now }
 {
-    match package_by(packages, &id.package) {
-        Some(p) => has_name(&packages.manifest(p).scripts, &id.task),
+    match packages.owner_of(&id.package) {
+        Some(owner) => has_name(&packages.manifest(owner).scripts, &id.task),
         None => false,
     }
 }
@@ -40,7 +39,7 @@ pub(crate) fn is_persistent(
     config: &Config,
     id: &TaskId,
 ) -> Result<bool, GraphErr>
-    ensures value { IfOk result (λ is. is ≡ spec.is_persistent packages.now.packages config.now id.now) }
+    ensures value { IfOk result (λ is. is ≡ spec.is_persistent packages.now config.now id.now) }
     ensures memory { OnlyMemory result }
 {
     if !has_script(packages, id) {

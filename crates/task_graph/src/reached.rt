@@ -38,7 +38,9 @@ fn visit(
     front: &mut Front,
     task: TaskId,
 ) -> Result<(), GraphErr>
-    ensures visits { OnOk result (Visits packages.now.packages config.now task front.old.rows.entries front.old.waiting.items front.new.rows.entries front.new.waiting.items) }
+    ensures visits { OnOk result (Visits packages.now config.now task
+        front.old.rows.entries front.old.waiting.items
+        front.new.rows.entries front.new.waiting.items) }
     ensures memory { OnlyMemory result }
 {
     if front.rows.contains_key(&task) {
@@ -55,15 +57,18 @@ pub(crate) fn reached(
     alloc: Global,
     packages: &Packages,
     config: &Config,
-    starts: Vec<TaskId>,
+    starts: &[TaskId],
 ) -> Result<Vec<(TaskId, Row)>, GraphErr>
-    ensures reached { IfOk result (λ rows. (ids : List TaskId) × AreTasks packages.now.packages config.now starts.items ids × AreRowsOf packages.now.packages config.now ids rows.items) }
+    ensures reached { IfOk result (λ rows. (ids : List TaskId)
+        × AreTasks packages.now config.now starts.now ids
+        × AreRowsOf packages.now config.now ids rows.items) }
     ensures memory { OnlyMemory result }
 {
     let mut front = Front {
         rows: BTreeMap::new(alloc),
-        waiting: starts,
+        waiting: Vec::new(alloc),
     };
+    add_waiting(&mut front.waiting, starts)?;
     // Memory ends long before this bound.
     for _turn in 0..u64::MAX {
         let Some(task) = front.waiting.pop() else {

@@ -6,9 +6,9 @@ ghost use Rattle.task_graph.specs.Memory.{OnlyMemory};
 
 use crate::GraphErr;
 use crate::slots::{Slot, ready_of, settle, slots_of, wake};
-use crate::users::users_of;
 use rel_path::Places;
 use std::alloc::Global;
+use workspaces::users_of;
 
 /// An order that nothing can follow, with what is counted of each task.
 #[derive(Drop)]

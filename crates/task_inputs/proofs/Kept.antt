@@ -1,4 +1,4 @@
--- The tasks of kept packages, and the files that they get from anywhere.
+-- The tasks of kept owners, and the files that they get from anywhere.
 use Rattle.std.proofs.Common.{◌≡◌, ◌⊎◌, inl, inr, ◌&&◌, ◌||◌, ℕ, ◌+◌, ◌<◌, Bool, true, false, cond, List, [], ◌∷◌, ◌++◌, length, filter, get_or, take, map, refl, sym, ap, ◌∙◌, subst, arith}
 use Rattle.std.specs.Prelude.{Option, Some, None, not, option_to_list}
 use Rattle.std.specs.List.{slice_get, list_any}
@@ -18,13 +18,15 @@ use Rattle.turbo_config.specs.Setup.{Setup, task_def, is_name, is_among, AreName
 use Rattle.task_inputs.specs.declared.entries.InputGlob.{InputGlob}
 use Rattle.task_inputs.specs.declared.entries.InputList.{InputList}
 use Rattle.task_inputs.specs.declared.tasks.TaskGlobs.{TaskGlobs}
-use Rattle.task_inputs.specs.Homes.{home_of}
-use Rattle.task_inputs.specs.Entries.{any_wide, any_reaches, is_wide, relative}
+use Rattle.task_inputs.specs.Homes.{home_of, is_home}
+use Rattle.task_inputs.specs.Entries.{any_wide, any_reaches, is_wide, rest_where}
 use Rattle.globs.specs.Match.{matches}
+use Rattle.task_inputs.specs.Folders.{AreHomes}
 use Rattle.task_inputs.specs.Inputs.{is_asked_from_root, may_count, is_global}
-use Rattle.task_inputs.specs.Facts.{IsRead, IsList, is_wide_list, may_count_in}
+use Rattle.task_inputs.specs.Facts.{IsRead, IsList, is_at as is_at_home, home_place, is_wide_list, may_count_in}
 use Rattle.task_inputs.specs.Rooted.{IsRooted, ArePicked, ReadsAs, Reads, IsTaskOf, AreTasksOf, AreTasks, far_list, far_by, far_test, are_some}
-use Rattle.task_inputs.proofs.Rows.{may_is}
+use Rattle.task_inputs.proofs.Homes.{some_same}
+use Rattle.task_inputs.proofs.Rows.{may_is, at_is}
 
 -- ---- lists as sets
 
@@ -71,26 +73,20 @@ has_filter test (y ∷ ys) x has t = by (test y) refl has (λ h. has_filter test
   by false e (inl here) more = absurd (false≢true (sym e ∙ ap test here ∙ t))
   by false e (inr later) more = more later
 
-some_same : {X : Type 0} (x y : X) → Some x ≡ Some y → x ≡ y
-some_same x y e = cc
-
 -- ---- one task
 
-pub reads_one : (setup : Setup) (packages : List Package) (place : ℕ) (own name : List ℕ) (def : Option TaskDef) (found : Option TaskGlobs) → place < length packages → ((d : Package) → own ≡ (get_or packages place d).name) → def ≡ task_def setup own name → ReadsAs packages place def found → Reads setup packages place name found
-reads_one setup packages place own name def found less its is read = by packages refl less where
-  by : (ps : List Package) → ps ≡ packages → place < length packages → Reads setup packages place name found
+pub reads_one : (setup : Setup) (members : List Package) (place : ℕ) (own name : List ℕ) (def : Option TaskDef) (found : Option TaskGlobs) → place < length members → ((d : Package) → own ≡ (get_or members place d).name) → def ≡ task_def setup own name → ReadsAs members place def found → Reads setup members place name found
+reads_one setup members place own name def found less its is read = by members refl less where
+  by : (ps : List Package) → ps ≡ members → place < length members → Reads setup members place name found
   by [] e l = absurd (omega (arith, ap length e))
   by (d ∷ ps) e l = record {
-    member = get_or packages place d;
-    stands = slice_get-get_or packages place d l;
-    read = subst (λ o. ReadsAs packages place o found) (is ∙ ap (λ n. task_def setup n name) (its d)) read;
+    member = get_or members place d;
+    stands = slice_get-get_or members place d l;
+    read = subst (λ o. ReadsAs members place o found) (is ∙ ap (λ n. task_def setup n name) (its d)) read;
   }
 
-module _ (setup : Setup) (packages : List Package) (place : ℕ) where
-  pub no_tasks : AreTasksOf setup packages place [] []
-  no_tasks = record { sound = λ task has. absurd has; whole = λ name member def has at is. absurd has }
-
-  pub task_more : (names : List (List ℕ)) (name : List ℕ) (tasks : List TaskGlobs) (found : Option TaskGlobs) → AreTasksOf setup packages place names tasks → Reads setup packages place name found → AreTasksOf setup packages place (names ++ name ∷ []) (tasks ++ option_to_list found)
+module _ (setup : Setup) (members : List Package) (place : ℕ) where
+  pub task_more : (names : List (List ℕ)) (name : List ℕ) (tasks : List TaskGlobs) (found : Option TaskGlobs) → AreTasksOf setup members place names tasks → Reads setup members place name found → AreTasksOf setup members place (names ++ name ∷ []) (tasks ++ option_to_list found)
   task_more names name tasks found before r = record {
     sound = λ task has. elim (has-append tasks (option_to_list found) task has) [
       | inl old ↦ let b = before.sound task old in (b.0, has_left names (name ∷ []) b.0 b.1, b.2)
@@ -104,27 +100,24 @@ module _ (setup : Setup) (packages : List Package) (place : ℕ) where
       ]
     ];
   } where
-    fresh : (o : Option TaskGlobs) → found ≡ o → (d : Option TaskDef) → task_def setup r.member.name name ≡ d → ReadsAs packages place d o → (task : TaskGlobs) → Has (option_to_list o) task → IsTaskOf setup packages place name task
+    fresh : (o : Option TaskGlobs) → found ≡ o → (d : Option TaskDef) → task_def setup r.member.name name ≡ d → ReadsAs members place d o → (task : TaskGlobs) → Has (option_to_list o) task → IsTaskOf setup members place name task
     fresh None e d f read task has = absurd has
     fresh (Some t) e None f read task has = absurd read
-    fresh (Some t) e (Some def) f read task (inl here) = record { member = r.member; stands = r.stands; def = def; defined = f; read = subst (λ (x : TaskGlobs). IsRead packages (record { «package» = place; def = def }) x) here read }
+    fresh (Some t) e (Some def) f read task (inl here) = record { member = r.member; stands = r.stands; def = def; defined = f; read = subst (λ (x : TaskGlobs). IsRead members (record { owner = place; def = def }) x) here read }
     fresh (Some t) e (Some def) f read task (inr none) = absurd none
 
-    there : (o : Option TaskGlobs) → found ≡ o → (def : TaskDef) → task_def setup r.member.name name ≡ Some def → (task : TaskGlobs) × (Has (tasks ++ option_to_list found) task) × IsRead packages (record { «package» = place; def = def }) task
-    there None e def f = absurd (subst (λ o. ReadsAs packages place o None) f (subst (λ o. ReadsAs packages place (task_def setup r.member.name name) o) e r.read))
-    there (Some t) e def f = (t, has_right tasks (option_to_list found) t (subst (λ o. Has (option_to_list o) t) (sym e) (inl refl)), subst (λ o. ReadsAs packages place o (Some t)) f (subst (λ o. ReadsAs packages place (task_def setup r.member.name name) o) e r.read))
+    there : (o : Option TaskGlobs) → found ≡ o → (def : TaskDef) → task_def setup r.member.name name ≡ Some def → (task : TaskGlobs) × (Has (tasks ++ option_to_list found) task) × IsRead members (record { owner = place; def = def }) task
+    there None e def f = absurd (subst (λ o. ReadsAs members place o None) f (subst (λ o. ReadsAs members place (task_def setup r.member.name name) o) e r.read))
+    there (Some t) e def f = (t, has_right tasks (option_to_list found) t (subst (λ o. Has (option_to_list o) t) (sym e) (inl refl)), subst (λ o. ReadsAs members place o (Some t)) f (subst (λ o. ReadsAs members place (task_def setup r.member.name name) o) e r.read))
 
-  pub task_next : (names : List (List ℕ)) (i : ℕ) (name : List ℕ) (found : Option TaskGlobs) (old new : List TaskGlobs) → i < length names → name ≡ get_or names i name → AreTasksOf setup packages place (take i names) old → Reads setup packages place name found → new ≡ old ++ option_to_list found → AreTasksOf setup packages place (take (i + 1) names) new
+  pub task_next : (names : List (List ℕ)) (i : ℕ) (name : List ℕ) (found : Option TaskGlobs) (old new : List TaskGlobs) → i < length names → name ≡ get_or names i name → AreTasksOf setup members place (take i names) old → Reads setup members place name found → new ≡ old ++ option_to_list found → AreTasksOf setup members place (take (i + 1) names) new
   task_next names i name found old new less is before r put =
-      subst (λ ns. AreTasksOf setup packages place ns new) (sym (take_more names i name less ∙ ap (λ n. take i names ++ n ∷ []) (sym is))) (rw put (task_more (take i names) name old found before r))
+      subst (λ ns. AreTasksOf setup members place ns new) (sym (take_more names i name less ∙ ap (λ n. take i names ++ n ∷ []) (sym is))) (rw put (task_more (take i names) name old found before r))
 
--- ---- several packages
+-- ---- several owners
 
-module _ (setup : Setup) (packages : List Package) (names : List (List ℕ)) where
-  pub none_kept : AreTasks setup packages [] names []
-  none_kept = record { sound = λ task has. absurd has; whole = λ place name member def has among at is. absurd has }
-
-  pub kept_more : (kept : List ℕ) (place : ℕ) (tasks more : List TaskGlobs) → AreTasks setup packages kept names tasks → AreTasksOf setup packages place names more → AreTasks setup packages (kept ++ place ∷ []) names (tasks ++ more)
+module _ (setup : Setup) (members : List Package) (names : List (List ℕ)) where
+  pub kept_more : (kept : List ℕ) (place : ℕ) (tasks more : List TaskGlobs) → AreTasks setup members kept names tasks → AreTasksOf setup members place names more → AreTasks setup members (kept ++ place ∷ []) names (tasks ++ more)
   kept_more kept place tasks more before here = record {
     sound = λ task has. elim (has-append tasks more task has) [
       | inl old ↦ let b = before.sound task old in (b.0, has_left kept (place ∷ []) b.0 b.1, b.2, b.3, b.4)
@@ -133,15 +126,15 @@ module _ (setup : Setup) (packages : List Package) (names : List (List ℕ)) whe
     whole = λ p name member def has among at is. elim (has-append kept (place ∷ []) p has) [
       | inl old ↦ let b = before.whole p name member def old among at is in (b.0, has_left tasks more b.0 b.1, b.2)
       | inr new ↦ elim new [
-        | inl same ↦ let h = here.whole name member def among (ap (slice_get packages) same ∙ at) is in (h.0, has_right tasks more h.0 h.1, subst (λ n. IsRead packages (record { «package» = n; def = def }) h.0) same h.2)
+        | inl same ↦ let h = here.whole name member def among (ap (slice_get members) same ∙ at) is in (h.0, has_right tasks more h.0 h.1, subst (λ n. IsRead members (record { owner = n; def = def }) h.0) same h.2)
         | inr none ↦ absurd none
       ]
     ];
   }
 
-  pub kept_next : (kept : List ℕ) (i : ℕ) (place : ℕ) (old more new : List TaskGlobs) → i < length kept → place ≡ get_or kept i 0 → AreTasks setup packages (take i kept) names old → AreTasksOf setup packages place names more → new ≡ old ++ more → AreTasks setup packages (take (i + 1) kept) names new
+  pub kept_next : (kept : List ℕ) (i : ℕ) (place : ℕ) (old more new : List TaskGlobs) → i < length kept → place ≡ get_or kept i 0 → AreTasks setup members (take i kept) names old → AreTasksOf setup members place names more → new ≡ old ++ more → AreTasks setup members (take (i + 1) kept) names new
   kept_next kept i place old more new less is before here put =
-      subst (λ ps. AreTasks setup packages ps names new) (sym (take_more kept i 0 less ∙ ap (λ p. take i kept ++ p ∷ []) (sym is))) (rw put (kept_more (take i kept) place old more before here))
+      subst (λ ps. AreTasks setup members ps names new) (sym (take_more kept i 0 less ∙ ap (λ p. take i kept ++ p ∷ []) (sym is))) (rw put (kept_more (take i kept) place old more before here))
 
 -- ---- the files
 
@@ -160,19 +153,19 @@ and_both : (a b : Bool) → (a && b) ≡ true → (a ≡ true) × (b ≡ true)
 and_both true b e = (refl, e)
 and_both false b e = absurd (false≢true e)
 
-far_wide : (task : TaskGlobs) (path : Path) → far_by task path ≡ true → is_wide_list task.inputs ≡ true
-far_wide task path e = by task.inputs e where
-  by : (o : Option InputList) → far_list o path (relative task.folder path) ≡ true → is_wide_list o ≡ true
+far_wide : (home : Option ℕ) (task : TaskGlobs) (path : Path) → far_by home task path ≡ true → is_wide_list task.inputs ≡ true
+far_wide home task path e = by task.inputs e where
+  by : (o : Option InputList) → far_list o path (rest_where (is_at_home home task.place) task.folder path) ≡ true → is_wide_list o ≡ true
   by None f = absurd (false≢true f)
-  by (Some list) f = wide_any list.globs.items path (and_both (any_wide list.globs.items path) (not (any_reaches true list.globs.items path (relative task.folder path))) f).0
+  by (Some list) f = wide_any list.globs.items path (and_both (any_wide list.globs.items path) (not (any_reaches true list.globs.items path (rest_where (is_at_home home task.place) task.folder path))) f).0
 
-far_is : (packages : List Package) (place : ℕ) (def : TaskDef) (task : TaskGlobs) (r : IsRead packages (record { «package» = place; def = def }) task) (path : Path) → far_by task path ≡ is_asked_from_root r.member def.inputs path
-far_is packages place def task r path = by def.inputs task.inputs r.inputs where
-  by : (texts : Option (List (List ℕ))) (inputs : Option InputList) → IsList texts inputs → far_list inputs path (relative task.folder path) ≡ is_asked_from_root r.member texts path
+far_is : (members : List Package) (place : ℕ) (def : TaskDef) (task : TaskGlobs) (r : IsRead members (record { owner = place; def = def }) task) (home : Option ℕ) (path : Path) → is_at_home home task.place ≡ is_home members r.member path → far_by home task path ≡ is_asked_from_root members r.member def.inputs path
+far_is members place def task r home path own = rw (own, r.folder) (by def.inputs task.inputs r.inputs) where
+  by : (texts : Option (List (List ℕ))) (inputs : Option InputList) → IsList texts inputs → far_list inputs path (rest_where (is_home members r.member path) r.member.folder path) ≡ is_asked_from_root members r.member texts path
   by None None l = refl
   by None (Some list) l = absurd l
   by (Some texts) None l = absurd l
-  by (Some texts) (Some list) l = rw (l.0, r.folder) refl
+  by (Some texts) (Some list) l = rw l.0 refl
 
 some_task : (tasks : List TaskGlobs) → are_some tasks ≡ true → (task : TaskGlobs) × Has tasks task
 some_task [] e = absurd (false≢true e)
@@ -187,8 +180,14 @@ name_among names name has = has_any (is_at (name_cmp name)) names name has (self
   self : (n : List ℕ) → is_at (name_cmp n) n ≡ true
   self n = ap is_eq (name_cmp_self n)
 
-module _ (setup : Setup) (packages : List Package) (kept : List ℕ) (names : List (List ℕ)) (tasks : List TaskGlobs) (are : AreNames setup names) (all : AreTasks setup packages kept names tasks) where
-  one : (path : Path) → may_count setup packages path ≡ true → (task : TaskGlobs) → Has tasks task → (far_by task path || is_global setup path) ≡ true → IsRooted setup packages kept path
+module _ (setup : Setup) (members : List Package) (kept : List ℕ) (names : List (List ℕ)) (tasks : List TaskGlobs) (are : AreNames setup names) (all : AreTasks setup members kept names tasks) (homes : AreHomes (map (home_of setup) members)) where
+  abbrev home : Path → Option ℕ
+  home path = home_place (map (home_of setup) members) path
+
+  own_is : (path : Path) (place : ℕ) (def : TaskDef) (task : TaskGlobs) (r : IsRead members (record { owner = place; def = def }) task) → is_at_home (home path) task.place ≡ is_home members r.member path
+  own_is path place def task r = at_is setup members path task.place r.member homes (ap (slice_get members) r.place ∙ r.stands)
+
+  one : (path : Path) → may_count setup members path ≡ true → (task : TaskGlobs) → Has tasks task → (far_by (home path) task path || is_global setup path) ≡ true → IsRooted setup members kept path
   one path count task has far =
       let s = all.sound task has in
       let t = s.4 in
@@ -202,36 +201,36 @@ module _ (setup : Setup) (packages : List Package) (kept : List ℕ) (names : Li
         named = sym (are.exact s.2) ∙ name_among names s.2 s.3;
         def = t.def;
         defined = t.defined;
-        far = rw (count, same, ← far_is packages s.0 t.def task t.read path) far;
+        far = rw (count, same, ← far_is members s.0 t.def task t.read (home path) path (own_is path s.0 t.def task t.read)) far;
       }
 
-  pub picked_are : (any : Bool) (wide : List TaskGlobs) (walk picked : List Path) → any ≡ are_some tasks → wide ≡ filter (λ (t : TaskGlobs). is_wide_list t.inputs) tasks → picked ≡ filter (far_test (map (home_of setup) packages) setup.globals.inputs any wide) walk → ArePicked (IsRooted setup packages kept) walk picked
+  pub picked_are : (any : Bool) (wide : List TaskGlobs) (walk picked : List Path) → any ≡ are_some tasks → wide ≡ filter (λ (t : TaskGlobs). is_wide_list t.inputs) tasks → picked ≡ filter (far_test (map (home_of setup) members) setup.globals.inputs any wide) walk → ArePicked (IsRooted setup members kept) walk picked
   unfolding far_test
   picked_are any wide walk picked there_is is put = record {
-    test = far_test (map (home_of setup) packages) setup.globals.inputs any wide;
-    sound = λ path e. sound path (and_both (may_count_in (map (home_of setup) packages) path) ((any && list_takes setup.globals.inputs path) || list_any (λ (t : TaskGlobs). far_by t path) wide) e);
+    test = far_test (map (home_of setup) members) setup.globals.inputs any wide;
+    sound = λ path e. sound path (and_both (may_count_in (map (home_of setup) members) path) ((any && list_takes setup.globals.inputs path) || list_any (λ (t : TaskGlobs). far_by (home path) t path) wide) e);
     whole = λ path r. whole path r;
     are = put;
   } where
-    sound : (path : Path) → (may_count_in (map (home_of setup) packages) path ≡ true) × (((any && list_takes setup.globals.inputs path) || list_any (λ (t : TaskGlobs). far_by t path) wide) ≡ true) → IsRooted setup packages kept path
+    sound : (path : Path) → (may_count_in (map (home_of setup) members) path ≡ true) × (((any && list_takes setup.globals.inputs path) || list_any (λ (t : TaskGlobs). far_by (home path) t path) wide) ≡ true) → IsRooted setup members kept path
     sound path e =
-        let count : may_count setup packages path ≡ true = sym (may_is setup packages path) ∙ e.0 in
-        elim (or_cases (any && list_takes setup.globals.inputs path) (list_any (λ (t : TaskGlobs). far_by t path) wide) e.1) [
-          | inl g ↦ let b = and_both any (list_takes setup.globals.inputs path) g in let t = some_task tasks (sym there_is ∙ b.0) in one path count t.0 t.1 (or_right (far_by t.0 path) (is_global setup path) b.1)
-          | inr w ↦ let t = any_has (λ (t : TaskGlobs). far_by t path) wide w in one path count t.0 (filter_has (λ (t : TaskGlobs). is_wide_list t.inputs) tasks t.0 (subst (λ ts. Has ts t.0) is t.1)) (or_left (far_by t.0 path) (is_global setup path) t.2)
+        let count : may_count setup members path ≡ true = sym (may_is setup members path) ∙ e.0 in
+        elim (or_cases (any && list_takes setup.globals.inputs path) (list_any (λ (t : TaskGlobs). far_by (home path) t path) wide) e.1) [
+          | inl g ↦ let b = and_both any (list_takes setup.globals.inputs path) g in let t = some_task tasks (sym there_is ∙ b.0) in one path count t.0 t.1 (or_right (far_by (home path) t.0 path) (is_global setup path) b.1)
+          | inr w ↦ let t = any_has (λ (t : TaskGlobs). far_by (home path) t path) wide w in one path count t.0 (filter_has (λ (t : TaskGlobs). is_wide_list t.inputs) tasks t.0 (subst (λ ts. Has ts t.0) is t.1)) (or_left (far_by (home path) t.0 path) (is_global setup path) t.2)
         ]
 
-    whole : (path : Path) → IsRooted setup packages kept path → far_test (map (home_of setup) packages) setup.globals.inputs any wide path ≡ true
+    whole : (path : Path) → IsRooted setup members kept path → far_test (map (home_of setup) members) setup.globals.inputs any wide path ≡ true
     whole path r =
-        let far = and_both (may_count setup packages path) (is_asked_from_root r.member r.def.inputs path || is_global setup path) r.far in
+        let far = and_both (may_count setup members path) (is_asked_from_root members r.member r.def.inputs path || is_global setup path) r.far in
         let t = all.whole r.place r.task r.member r.def r.is_kept (among r.task r.named) r.stands r.defined in
         let same : r.member ≡ t.2.member = some_same r.member t.2.member (sym r.stands ∙ t.2.stands) in
         let there : any ≡ true = there_is ∙ task_some tasks t.0 t.1 in
-        rw (may_is setup packages path, far.0, there) (elim (or_cases (is_asked_from_root r.member r.def.inputs path) (is_global setup path) far.1) [
+        rw (may_is setup members path, far.0, there) (elim (or_cases (is_asked_from_root members r.member r.def.inputs path) (is_global setup path) far.1) [
           | inl a ↦
-              let by_root : far_by t.0 path ≡ true = far_is packages r.place r.def t.0 t.2 path ∙ ap (λ (m : Package). is_asked_from_root m r.def.inputs path) (sym same) ∙ a in
-              or_right (is_global setup path) (list_any (λ (x : TaskGlobs). far_by x path) wide) (has_any (λ (x : TaskGlobs). far_by x path) wide t.0 (subst (λ ts. Has ts t.0) (sym is) (has_filter (λ (x : TaskGlobs). is_wide_list x.inputs) tasks t.0 t.1 (far_wide t.0 path by_root))) by_root)
-          | inr g ↦ or_left (is_global setup path) (list_any (λ (x : TaskGlobs). far_by x path) wide) g
+              let by_root : far_by (home path) t.0 path ≡ true = far_is members r.place r.def t.0 t.2 (home path) path (own_is path r.place r.def t.0 t.2) ∙ ap (λ (m : Package). is_asked_from_root members m r.def.inputs path) (sym same) ∙ a in
+              or_right (is_global setup path) (list_any (λ (x : TaskGlobs). far_by (home path) x path) wide) (has_any (λ (x : TaskGlobs). far_by (home path) x path) wide t.0 (subst (λ ts. Has ts t.0) (sym is) (has_filter (λ (x : TaskGlobs). is_wide_list x.inputs) tasks t.0 t.1 (far_wide (home path) t.0 path by_root))) by_root)
+          | inr g ↦ or_left (is_global setup path) (list_any (λ (x : TaskGlobs). far_by (home path) x path) wide) g
         ]) where
           among : (name : List ℕ) → is_name setup name ≡ true → Has names name
           among name e = let x = any_has (is_at (name_cmp name)) names (are.exact name ∙ e) in subst (λ n. Has names n) (sym (name_same name x.0 (texts_ties name x.0 ∙ x.2))) x.1

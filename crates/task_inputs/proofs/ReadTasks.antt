@@ -8,14 +8,14 @@ use Rattle.task_inputs.specs.declared.definitions.DefinedTask.{DefinedTask}
 use Rattle.task_inputs.specs.declared.entries.InputList.{InputList}
 use Rattle.task_inputs.specs.Facts.{IsRead, IsList}
 
-pub task_read : (packages : List Package) (t : DefinedTask) (folder copy : Path) (inputs : Option InputList) → t.«package» < length packages → ((d : Package) → folder ≡ (get_or packages t.«package» d).folder) → copy ≡ folder → IsList t.def.inputs inputs
-    → IsRead packages t (record { place = t.«package»; folder = copy; inputs = inputs })
-task_read packages t folder copy inputs less its same list = by packages refl less where
-  by : (ps : List Package) → ps ≡ packages → t.«package» < length packages → IsRead packages t (record { place = t.«package»; folder = copy; inputs = inputs })
+pub task_read : (members : List Package) (t : DefinedTask) (folder copy : Path) (inputs : Option InputList) → t.owner < length members → ((d : Package) → folder ≡ (get_or members t.owner d).folder) → copy ≡ folder → IsList t.def.inputs inputs
+    → IsRead members t (record { place = t.owner; folder = copy; inputs = inputs })
+task_read members t folder copy inputs less its same list = by members refl less where
+  by : (ps : List Package) → ps ≡ members → t.owner < length members → IsRead members t (record { place = t.owner; folder = copy; inputs = inputs })
   by [] e l = absurd (omega (arith, ap length e))
   by (d ∷ ps) e l = record {
-    member = get_or packages t.«package» d;
-    stands = slice_get-get_or packages t.«package» d l;
+    member = get_or members t.owner d;
+    stands = slice_get-get_or members t.owner d l;
     place = refl;
     folder = same ∙ its d;
     inputs = list;

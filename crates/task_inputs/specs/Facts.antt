@@ -5,14 +5,14 @@ use Rattle.std.specs.Option.{option_map, IfSome}
 use Rattle.rel_path.specs.Paths.{Path, path_eq}
 use Rattle.workspaces.specs.declared.member.Package.{Package}
 use Rattle.workspaces.specs.Lists.{places}
-use Rattle.workspaces.specs.Space.{lies_below, manifest_in}
+use Rattle.workspaces.specs.Space.{is_home_of, is_root_folder, manifest_in}
 use Rattle.globs.specs.Lists.{list_takes}
 use Rattle.task_inputs.specs.declared.files.FileFacts.{FileFacts}
 use Rattle.task_inputs.specs.declared.entries.InputList.{InputList}
 use Rattle.task_inputs.specs.declared.tasks.TaskGlobs.{TaskGlobs}
 use Rattle.task_inputs.specs.declared.definitions.DefinedTask.{DefinedTask}
-use Rattle.task_inputs.specs.Homes.{Home, declared_in}
-use Rattle.task_inputs.specs.Entries.{entries_of, has_default, relative, any_reaches, is_wide}
+use Rattle.task_inputs.specs.Homes.{Home, folders_of, declared_in}
+use Rattle.task_inputs.specs.Entries.{entries_of, has_default, rest_where, any_reaches, is_wide}
 use Rattle.task_inputs.specs.Inputs.{config_in}
 
 -- ---- of a file
@@ -22,12 +22,13 @@ abbrev pub place_by : {X : Type 0} → (X → Bool) → List X → Option ℕ
 place_by test [] = None
 place_by test (x ∷ xs) = if test x then Some 0 else option_map suc (place_by test xs)
 
--- the number of the home in which the path lies
+-- the number of the path's home
 unfoldable pub home_place : List Home → Path → Option ℕ
-home_place homes path = place_by (λ h. lies_below path h.folder) homes
+home_place homes path = place_by (λ h. is_home_of (folders_of homes) h.folder path) homes
 
+-- the `package.json` of a package
 abbrev pub is_manifest_in : List Home → Path → Bool
-is_manifest_in homes path = list_any (λ h. path_eq path (manifest_in h.folder)) homes
+is_manifest_in homes path = list_any (λ h. not (is_root_folder h.folder) && path_eq path (manifest_in h.folder)) homes
 
 unfoldable pub may_count_in : List Home → Path → Bool
 may_count_in homes path = not (declared_in homes path) && not (is_manifest_in homes path)
@@ -53,10 +54,10 @@ IsList (Some texts) None = ⊥
 IsList (Some texts) (Some list) = (list.globs.items ≡ entries_of texts) × (list.has_default ≡ has_default texts)
 
 -- the task was read
-pub record IsRead (packages : List Package) (t : DefinedTask) (task : TaskGlobs) : Type 0 where
+pub record IsRead (owners : List Package) (t : DefinedTask) (task : TaskGlobs) : Type 0 where
   pub member : Package
-  pub stands : slice_get packages t.«package» ≡ Some member
-  pub place : task.place ≡ t.«package»
+  pub stands : slice_get owners t.owner ≡ Some member
+  pub place : task.place ≡ t.owner
   pub folder : task.folder ≡ member.folder
   pub inputs : IsList t.def.inputs task.inputs
 
@@ -71,11 +72,19 @@ abbrev pub asked_by : Bool → Option InputList → Path → Option Path → Boo
 asked_by default None path rest = default
 asked_by default (Some list) path rest = (any_reaches false list.globs.items path rest || (list.has_default && default)) && not (any_reaches true list.globs.items path rest)
 
+-- the file is in the default set of the owner of this number
+abbrev pub is_default_at : FileFacts → ℕ → Bool
+is_default_at file place = is_at file.home place && not file.ignored
+
+-- the task asks for the file
+abbrev pub asks_by : TaskGlobs → FileFacts → Path → Bool
+asks_by task file path = asked_by (is_default_at file task.place) task.inputs path (rest_where (is_at file.home task.place) task.folder path)
+
 -- the task takes the file
 unfoldable pub takes_by : TaskGlobs → FileFacts → Path → Bool
 takes_by task file path =
     (path_eq path (manifest_in task.folder) || path_eq path (config_in task.folder))
-    || (file.may_count && (asked_by (is_at file.home task.place && not file.ignored) task.inputs path (relative task.folder path) || file.global))
+    || (file.may_count && (asks_by task file path || file.global))
 
 -- ---- lists of places
 
@@ -86,7 +95,7 @@ merged (suc n) [] ys = ys
 merged (suc n) (x ∷ xs) [] = x ∷ xs
 merged (suc n) (x ∷ xs) (y ∷ ys) = if nat_lt x y then x ∷ merged n xs (y ∷ ys) else (if x == y then x ∷ merged n xs ys else y ∷ merged n (x ∷ xs) ys)
 
--- the row of each home lists the places of the files that lie there
+-- the row of each home lists the places of its files
 abbrev pub AreNear : List FileFacts → List (List ℕ) → Type 0
 AreNear files rows = (q : ℕ) → q < length rows → slice_index_or rows q [] ≡ places (λ f. is_at f.home q) files
 

@@ -20,11 +20,11 @@ is_ignore_file (name ∷ next ∷ rest) = is_ignore_file (next ∷ rest)
 
 -- it is one, and no configured task of its home declares it
 abbrev pub is_rule_file : Setup → List Package → Path → Bool
-is_rule_file setup packages path = is_ignore_file path && not (is_declared setup packages path)
+is_rule_file setup owners path = is_ignore_file path && not (is_declared setup owners path)
 
 -- the walked ignore files that count
 unfoldable pub rule_files : Setup → List Package → List Path → List Path
-rule_files setup packages walk = filter (is_rule_file setup packages) walk
+rule_files setup owners walk = filter (is_rule_file setup owners) walk
 
 abbrev pub rules_found : Option (List ℕ) → List Rule
 rules_found None = []
@@ -32,8 +32,8 @@ rules_found (Some bytes) = rules_of bytes
 
 -- the rules that hold in a folder: those of its ignore file, where that counts and is there
 unfoldable pub rules_by : Setup → List Package → FileMap → List Path → Path → List Rule
-rules_by setup packages files walk folder = if is_among (rule_files setup packages walk) (folder ++ ignore_name ∷ []) then rules_found (files (folder ++ ignore_name ∷ [])) else []
+rules_by setup owners files walk folder = if is_among (rule_files setup owners walk) (folder ++ ignore_name ∷ []) then rules_found (files (folder ++ ignore_name ∷ [])) else []
 
 -- an ignore file leaves the file out
 abbrev pub is_left_out : Setup → List Package → FileMap → List Path → Path → Bool
-is_left_out setup packages files walk path = is_ignored (rules_by setup packages files walk) path
+is_left_out setup owners files walk path = is_ignored (rules_by setup owners files walk) path

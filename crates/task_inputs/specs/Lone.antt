@@ -1,4 +1,4 @@
--- A task's outputs as an output set of their own, as if it were the only task of its package.
+-- A task's outputs as an output set of their own, as if it were the only task of its owner.
 use Rattle.std.specs.Prelude.{◌≡◌, ℕ, not, List, [], Option, map, filter}
 use Rattle.std.specs.List.{filter_map, AllByRecursion}
 use Rattle.std.specs.Option.{option_map}
@@ -14,7 +14,7 @@ lone folder outputs = record { folder = folder; mine = outputs; others = [] }
 abbrev pub lone_by : Setup → List ℕ → Path → List ℕ × List ℕ → Option LoneTask
 lone_by setup name folder script = option_map (λ def. record { task = script.0; outs = lone folder def.outputs }) (task_def setup name script.0)
 
--- the configured tasks of a package of this name in this folder
+-- the configured tasks of an owner of this name in this folder
 abbrev pub lone_tasks : Setup → List ℕ → Path → List (List ℕ × List ℕ) → List LoneTask
 lone_tasks setup name folder scripts = filter_map (lone_by setup name folder) scripts
 

@@ -42,7 +42,7 @@ pub record IsLooked (walk : List Path) (place : ℕ) (table : Table) : Type 0 wh
   pub narrow : AllByRecursion (λ k. k < length walk) (close table place)
 
 -- the places of the files that the task takes, of those at which it looks
-pub record IsRowOf (packages : List Package) (walk : List Path) (table : Table) (t : DefinedTask) (row : List ℕ) : Type 0 where
+pub record IsRowOf (owners : List Package) (walk : List Path) (table : Table) (t : DefinedTask) (row : List ℕ) : Type 0 where
   pub task : TaskGlobs
-  pub read : IsRead packages t task
+  pub read : IsRead owners t task
   pub taken : row ≡ filter (takes_at task table.files.items walk) (looked task table)

@@ -1,4 +1,4 @@
-// The configured tasks of a package.
+// The configured tasks of an owner.
 ghost use Rattle.std.specs.Prelude.{◌≡◌, ◌++◌, ◌∷◌, [], IfOk, OnOk, option_to_list};
 ghost use Rattle.std.specs.List.{list_any};
 ghost use Rattle.globs.specs.Outputs.{takes, declares};
@@ -14,22 +14,22 @@ use std::alloc::Global;
 use std::marker::Model;
 use turbo_config::Config;
 
-/// A configured task, and its output set as if it were the only task of its package.
+/// A configured task, and its output set as if it were the only task of its owner.
 #[derive(Debug, Drop)]
 pub(crate) struct LoneTask {
     pub task: Text,
     pub outs: OutSet,
 }
 
-/// The configured tasks of a package, in the order of its scripts, which contracts see as its folder and the tasks with
+/// The configured tasks of an owner, in the order of its scripts, which contracts see as its folder and the tasks with
 /// their outputs.
 #[derive(Debug, Drop)]
-pub(crate) struct PackageTasks {
+pub(crate) struct OwnerTasks {
     folder: RelPath,
     tasks: Vec<LoneTask>,
 }
 
-impl Model for PackageTasks {
+impl Model for OwnerTasks {
     ghost use Rattle.task_inputs.specs.Homes.{Home};
 
     ghost Value = { Home };
@@ -41,7 +41,7 @@ impl Model for PackageTasks {
     ghost invariant = { λ a. IsHome a.folder a.tasks.items };
 }
 
-/// The outputs alone, of a task of the package in the folder.
+/// The outputs alone, of a task of the owner in the folder.
 fn lone_outs(alloc: Global, folder: &RelPath, outputs: &Texts) -> Result<OutSet, ListErr>
     ensures value { IfOk result (λ outs. outs ≡ lone folder.now outputs.now) }
     ensures memory { OnlyMemory result }
@@ -65,7 +65,8 @@ fn lone_task(
     folder: &RelPath,
     script: &(Text, Text),
 ) -> Result<Option<LoneTask>, ListErr>
-    ensures value { IfOk result (λ found. found ≡ lone_by config.now name.now folder.now script.now) }
+    ensures value { IfOk result
+        (λ found. found ≡ lone_by config.now name.now folder.now script.now) }
     ensures memory { OnlyMemory result }
 {
     match definition(alloc, config, name, &script.0)? {
@@ -127,7 +128,8 @@ fn tasks_of(
     folder: &RelPath,
     scripts: &[(Text, Text)],
 ) -> Result<Vec<LoneTask>, ListErr>
-    ensures value { IfOk result (λ tasks. tasks.items ≡ lone_tasks config.now name.now folder.now scripts.now) }
+    ensures value { IfOk result
+        (λ tasks. tasks.items ≡ lone_tasks config.now name.now folder.now scripts.now) }
     ensures memory { OnlyMemory result }
 {
     let mut tasks = Vec::new(alloc);
@@ -137,21 +139,24 @@ fn tasks_of(
     Ok(tasks)
 }
 
-impl PackageTasks {
-    /// The configured tasks of the package of this name in this folder with these scripts.
+impl OwnerTasks {
+    /// The configured tasks of the owner of this name in this folder with these scripts.
     pub fn new(
         alloc: Global,
         config: &Config,
         name: &Text,
         folder: &RelPath,
         scripts: &[(Text, Text)],
-    ) -> Result<PackageTasks, ListErr>
-        ensures value { IfOk result (λ home. home ≡ record { folder = folder.now; tasks = configured_in config.now name.now scripts.now }) }
+    ) -> Result<OwnerTasks, ListErr>
+        ensures value { IfOk result (λ home. home ≡ record {
+          folder = folder.now;
+          tasks = configured_in config.now name.now scripts.now;
+        }) }
         ensures memory { OnlyMemory result }
     {
         let tasks = tasks_of(alloc, config, name, folder, scripts)?;
         let folder = folder.copy()?;
-        Ok(PackageTasks { folder, tasks })
+        Ok(OwnerTasks { folder, tasks })
     }
 
     fn tasks(&self) -> &[LoneTask]
@@ -169,7 +174,8 @@ impl PackageTasks {
 
     /// Whether one of the tasks declares the path.
     pub fn declares(&self, path: &RelPath) -> bool
-        ensures { result ≡ list_any (λ t. declares t.outputs self.now.folder path.now) self.now.tasks }
+        ensures { result
+            ≡ list_any (λ t. declares t.outputs self.now.folder path.now) self.now.tasks }
     {
         is_declared_by(self.tasks(), path)
     }

@@ -8,24 +8,24 @@ use rel_path::Text;
 use std::alloc::Global;
 use turbo_config::{Config, TaskDef};
 
-/// A task of a package, by the package's number and the task's definition.
+/// A task, by its owner's number and its definition.
 #[derive(Debug, Drop)]
 pub struct DefinedTask {
-    pub package: u32,
+    pub owner: u32,
     pub def: TaskDef,
 }
 
-/// The definition of a task of a package, if it has one.
+/// The definition of a task of an owner of this name, if it has one.
 pub(crate) fn definition(
     alloc: Global,
     config: &Config,
-    package: &Text,
+    owner: &Text,
     task: &Text,
 ) -> Result<Option<TaskDef>, ListErr>
-    ensures value { IfOk result (λ def. def ≡ task_def config.now «package».now task.now) }
+    ensures value { IfOk result (λ def. def ≡ task_def config.now owner.now task.now) }
     ensures memory { OnlyMemory result }
 {
-    match config.task_def(alloc, package, task) {
+    match config.task_def(alloc, owner, task) {
         Ok(def) => Ok(def),
         Err(_) => Err(ListErr::OutOfMemory),
     }

@@ -16,8 +16,8 @@ use std::alloc::Global;
 pub(crate) enum Base {
     /// The root folder.
     Root,
-    /// The folder of the task's package.
-    Package,
+    /// The folder of the task's owner.
+    Owner,
 }
 
 /// A glob of a list of inputs, and whether it excludes.
@@ -59,7 +59,8 @@ fn input_glob(
     excluded: bool,
     text: &str,
 ) -> Result<Option<InputGlob>, ListErr>
-    ensures value { IfOk result (λ entry. entry ≡ Some (glob_entry base excluded (glob_from 0 (chars text.now)))) }
+    ensures value { IfOk result
+        (λ entry. entry ≡ Some (glob_entry base excluded (glob_from 0 (chars text.now)))) }
     ensures memory { OnlyMemory result }
 {
     Ok(Some(InputGlob {
@@ -85,9 +86,9 @@ fn read_entry(alloc: Global, text: &str) -> Result<Option<InputGlob>, ListErr>
         return input_glob(alloc, Base::Root, true, glob);
     }
     if let Some(glob) = text.strip_prefix("!") {
-        return input_glob(alloc, Base::Package, true, glob);
+        return input_glob(alloc, Base::Owner, true, glob);
     }
-    input_glob(alloc, Base::Package, false, text)
+    input_glob(alloc, Base::Owner, false, text)
 }
 
 fn add_entry(globs: &mut Vec<InputGlob>, entry: Option<InputGlob>) -> Result<(), ListErr>
@@ -145,14 +146,14 @@ pub(crate) fn any_wide(globs: &[InputGlob], path: &RelPath) -> bool
         .any(|entry| is_wide(entry) && entry.glob.matches(path))
 }
 
-/// Whether the entry matches the path, which is also given by what is left of it below the package's folder.
+/// Whether the entry matches the path, which is also given by what is left of it below the owner's folder.
 fn reaches(entry: &InputGlob, path: &RelPath, below: &Option<RelPath>) -> bool
     ensures { result ≡ matches_from entry.now.base entry.now.glob path.now below.now }
 {
     match (entry.base, below) {
         (Base::Root, _) => entry.glob.matches(path),
-        (Base::Package, Some(rest)) => entry.glob.matches(rest),
-        (Base::Package, None) => false,
+        (Base::Owner, Some(rest)) => entry.glob.matches(rest),
+        (Base::Owner, None) => false,
     }
 }
 

@@ -18,7 +18,7 @@ use turbo_config::Config;
 /// What is known of a walked file, whatever task is asked about.
 #[derive(Clone, Copy, Debug)]
 pub(crate) struct FileFacts {
-    /// The number of the package in whose folder it lies.
+    /// The number of its home: the package in whose folder it lies, else the root.
     pub home: Option<usize>,
     /// No task declares it, and it is no package's `package.json`.
     pub may_count: bool,
@@ -52,7 +52,8 @@ pub(crate) fn global_list(alloc: Global, config: &Config) -> Result<GlobList, Li
 /// What is known of the file.
 #[tactic(auto, unfolding(crate::specs::Facts::fact_by))]
 fn fact_of(ignores: &Stack, declared: &Declared, globals: &GlobList, path: &RelPath) -> FileFacts
-    ensures { result ≡ fact_by (is_ignored (rules_in ignores.now)) declared.now globals.now path.now }
+    ensures { result
+        ≡ fact_by (is_ignored (rules_in ignores.now)) declared.now globals.now path.now }
 {
     let home = declared.home(path);
     FileFacts {
@@ -71,7 +72,8 @@ pub(crate) fn facts_of(
     declared: &Declared,
     globals: &GlobList,
 ) -> Result<Vec<FileFacts>, ListErr>
-    ensures facts { IfOk result (λ files. files.items ≡ map (fact_by (is_ignored (rules_in ignores.now)) declared.now globals.now) walk.now) }
+    ensures facts { IfOk result (λ files. files.items
+        ≡ map (fact_by (is_ignored (rules_in ignores.now)) declared.now globals.now) walk.now) }
     ensures memory { OnlyMemory result }
 {
     let mut files = Vec::new(alloc);
@@ -82,7 +84,8 @@ pub(crate) fn facts_of(
 }
 
 fn add_place(found: &mut Vec<u32>, place: u32, is_one: bool) -> Result<(), ListErr>
-    ensures added { OnOk result (found.new.items ≡ found.old.items ++ (if is_one then place ∷ [] else [])) }
+    ensures added { OnOk result
+        (found.new.items ≡ found.old.items ++ (if is_one then place ∷ [] else [])) }
     ensures memory { OnlyMemory result }
 {
     if is_one {
@@ -116,7 +119,7 @@ fn empty_rows(alloc: Global, count: usize) -> Result<Vec<Places>, ListErr>
     Ok(rows)
 }
 
-/// For each home the places of the files that lie there, ascending.
+/// For each home the places of its files, ascending.
 pub(crate) fn near_places(
     alloc: Global,
     count: usize,

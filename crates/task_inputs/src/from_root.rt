@@ -1,11 +1,12 @@
-// The files that tasks of some packages get from anywhere.
+// The files that tasks of some owners get from anywhere.
 ghost use Rattle.std.specs.Prelude.{◌≡◌, ◌<◌, ◌++◌, length, filter, option_to_list, IfOk, OnOk};
 ghost use Rattle.std.specs.List.{list_any};
 ghost use Rattle.listing.specs.Memory.{OnlyMemory};
 ghost use Rattle.workspaces.specs.Reach.{AreBelow};
+ghost use Rattle.workspaces.specs.Space.{owners};
 ghost use Rattle.turbo_config.specs.Setup.{AreNames};
 ghost use Rattle.task_inputs.specs.Homes.{LieApart};
-ghost use Rattle.task_inputs.specs.Facts.{is_wide_list};
+ghost use Rattle.task_inputs.specs.Facts.{home_place, is_wide_list};
 ghost use Rattle.task_inputs.specs.Rooted.{IsRooted, ArePicked, far_by, far_test, AreTasksOf, AreTasks, Reads, are_some};
 
 use crate::declared::Declared;
@@ -30,21 +31,21 @@ fn task_names(alloc: Global, config: &Config) -> Result<Texts, ListErr>
     }
 }
 
-/// What the task of this name asks for, if it has a definition in the package.
+/// What the owner's task of this name asks for, if it has a definition.
 fn task_of(
     alloc: Global,
     packages: &Packages,
     config: &Config,
-    package: u32,
+    owner: u32,
     name: &Text,
 ) -> Result<Option<TaskGlobs>, ListErr>
-    requires { «package» < length packages.now.packages }
-    ensures read { IfOk result (Reads config.now packages.now.packages «package» name.now) }
+    requires { owner < length (owners packages.now) }
+    ensures read { IfOk result (Reads config.now (owners packages.now) owner name.now) }
     ensures memory { OnlyMemory result }
 {
-    match definition(alloc, config, packages.name(package), name)? {
+    match definition(alloc, config, packages.name(owner), name)? {
         None => Ok(None),
-        Some(def) => Ok(Some(read_task(alloc, packages, &DefinedTask { package, def })?)),
+        Some(def) => Ok(Some(read_task(alloc, packages, &DefinedTask { owner, def })?)),
     }
 }
 
@@ -58,21 +59,22 @@ fn add_task(tasks: &mut Vec<TaskGlobs>, found: Option<TaskGlobs>) -> Result<(), 
     Ok(())
 }
 
-/// What the tasks of these names that have a definition in the package ask for.
+/// What the owner's tasks of these names that have a definition ask for.
 fn tasks_of(
     alloc: Global,
     packages: &Packages,
     config: &Config,
-    package: u32,
+    owner: u32,
     names: &[Text],
 ) -> Result<Vec<TaskGlobs>, ListErr>
-    requires { «package» < length packages.now.packages }
-    ensures tasks { IfOk result (λ tasks. AreTasksOf config.now packages.now.packages «package» names.now tasks.items) }
+    requires { owner < length (owners packages.now) }
+    ensures tasks { IfOk result
+        (λ tasks. AreTasksOf config.now (owners packages.now) owner names.now tasks.items) }
     ensures memory { OnlyMemory result }
 {
     let mut tasks = Vec::new(alloc);
     for name in names {
-        add_task(&mut tasks, task_of(alloc, packages, config, package, name)?)?;
+        add_task(&mut tasks, task_of(alloc, packages, config, owner, name)?)?;
     }
     Ok(tasks)
 }
@@ -87,7 +89,7 @@ fn add_all(tasks: &mut Vec<TaskGlobs>, more: Vec<TaskGlobs>) -> Result<(), ListE
     Ok(())
 }
 
-/// What the tasks with a definition of these packages ask for.
+/// What the tasks with a definition of these owners ask for.
 fn all_tasks(
     alloc: Global,
     packages: &Packages,
@@ -95,15 +97,16 @@ fn all_tasks(
     kept: &[u32],
     names: &[Text],
 ) -> Result<Vec<TaskGlobs>, ListErr>
-    requires { AreBelow (length packages.now.packages) kept.now }
-    ensures tasks { IfOk result (λ tasks. AreTasks config.now packages.now.packages kept.now names.now tasks.items) }
+    requires { AreBelow (length (owners packages.now)) kept.now }
+    ensures tasks { IfOk result
+        (λ tasks. AreTasks config.now (owners packages.now) kept.now names.now tasks.items) }
     ensures memory { OnlyMemory result }
 {
     let mut tasks = Vec::new(alloc);
-    for package in kept {
+    for owner in kept {
         add_all(
             &mut tasks,
-            tasks_of(alloc, packages, config, *package, names)?,
+            tasks_of(alloc, packages, config, *owner, names)?,
         )?;
     }
     Ok(tasks)
@@ -121,7 +124,8 @@ fn is_some(tasks: &[TaskGlobs]) -> bool
 
 /// Those of the tasks that have a glob of the root.
 fn wide_tasks(alloc: Global, tasks: Vec<TaskGlobs>) -> Result<Vec<TaskGlobs>, ListErr>
-    ensures value { IfOk result (λ wide. wide.items ≡ filter (λ t. is_wide_list t.inputs) tasks.items) }
+    ensures value { IfOk result
+        (λ wide. wide.items ≡ filter (λ t. is_wide_list t.inputs) tasks.items) }
     ensures memory { OnlyMemory result }
 {
     let mut wide = Vec::new(alloc);
@@ -133,13 +137,19 @@ fn wide_tasks(alloc: Global, tasks: Vec<TaskGlobs>) -> Result<Vec<TaskGlobs>, Li
     Ok(wide)
 }
 
-/// Whether some of the tasks asks for the path through a glob of the root.
-fn any_far(alloc: Global, tasks: &[TaskGlobs], path: &RelPath) -> Result<bool, ListErr>
-    ensures value { IfOk result (λ far. far ≡ list_any (λ t. far_by t path.now) tasks.now) }
+/// Whether some of the tasks asks for the path, which has this home, through a glob of the root.
+fn any_far(
+    alloc: Global,
+    tasks: &[TaskGlobs],
+    home: Option<usize>,
+    path: &RelPath,
+) -> Result<bool, ListErr>
+    ensures value { IfOk result
+        (λ far. far ≡ list_any (λ t. far_by home t path.now) tasks.now) }
     ensures memory { OnlyMemory result }
 {
     for task in tasks {
-        if task.asks_from_root(alloc, path)? {
+        if task.asks_from_root(alloc, home, path)? {
             return Ok(true);
         }
     }
@@ -156,20 +166,23 @@ fn is_far(
     wide: &[TaskGlobs],
     path: &RelPath,
 ) -> Result<bool, ListErr>
-    ensures value { IfOk result (λ far. far ≡ far_test declared.now globals.now any wide.now path.now) }
+    ensures value { IfOk result
+        (λ far. far ≡ far_test declared.now globals.now any wide.now path.now) }
     ensures memory { OnlyMemory result }
 {
-    if !declared.may_count(declared.home(path), path) {
+    let home = declared.home(path);
+    if !declared.may_count(home, path) {
         return Ok(false);
     }
     if any && globals.takes(path) {
         return Ok(true);
     }
-    any_far(alloc, wide, path)
+    any_far(alloc, wide, home, path)
 }
 
-/// The walked files, in the order of the walk, that some task with a definition of one of these packages gets through a
-/// glob that is relative to the root or through `globalDependencies`. It reads no file.
+/// The walked files, in the order of the walk, that some task with a definition of one of these owners gets through a
+/// glob that is relative to the root or through `globalDependencies`. Owners are numbered: the packages in their order
+/// and, behind them, the root. It reads no file.
 pub fn rooted(
     alloc: Global,
     walk: &Paths,
@@ -178,8 +191,9 @@ pub fn rooted(
     kept: &Places,
 ) -> Result<Paths, ListErr>
     requires apart { LieApart packages.now.packages }
-    requires kept { AreBelow (length packages.now.packages) kept.now }
-    ensures rooted { IfOk result (ArePicked (IsRooted config.now packages.now.packages kept.now) walk.now) }
+    requires kept { AreBelow (length (owners packages.now)) kept.now }
+    ensures rooted { IfOk result
+        (ArePicked (IsRooted config.now (owners packages.now) kept.now) walk.now) }
     ensures memory { OnlyMemory result }
 {
     let declared = Declared::new(alloc, packages, config)?;
@@ -201,7 +215,8 @@ fn picked(
     any: bool,
     wide: &[TaskGlobs],
 ) -> Result<Paths, ListErr>
-    ensures value { IfOk result (λ paths. paths ≡ filter (far_test declared.now globals.now any wide.now) walk.now) }
+    ensures value { IfOk result
+        (λ paths. paths ≡ filter (far_test declared.now globals.now any wide.now) walk.now) }
     ensures memory { OnlyMemory result }
 {
     let mut paths = Paths::new(alloc);

@@ -4,6 +4,7 @@ ghost use Rattle.std.specs.List.{AllByRecursion};
 ghost use Rattle.ignore_rules.specs.Ignored.{is_ignored};
 ghost use Rattle.ignore_rules.specs.Stacks.{rules_in};
 ghost use Rattle.listing.specs.Memory.{OnlyMemory};
+ghost use Rattle.workspaces.specs.Space.{owners};
 ghost use Rattle.task_inputs.specs.Homes.{LieApart, home_of};
 ghost use Rattle.task_inputs.specs.Inputs.{input_row};
 ghost use Rattle.task_inputs.specs.Tables.{IsLooked, IsRowOf};
@@ -28,9 +29,9 @@ fn task_places(
     table: &Table,
     task: &DefinedTask,
 ) -> Result<Places, ListErr>
-    requires looked { IsLooked walk.now task.now.«package» table.now }
-    requires task { task.now.«package» < length packages.now.packages }
-    ensures row { IfOk result (IsRowOf packages.now.packages walk.now table.now task.now) }
+    requires looked { IsLooked walk.now task.now.owner table.now }
+    requires task { task.now.owner < length (owners packages.now) }
+    ensures row { IfOk result (IsRowOf (owners packages.now) walk.now table.now task.now) }
     ensures memory { OnlyMemory result }
 {
     let globs = read_task(alloc, packages, task)?;
@@ -38,9 +39,11 @@ fn task_places(
 }
 
 /// For each of the tasks the places in the walk of the files that it takes, ascending, with the rules of these ignore
-/// files. `declared` is what `Declared::new` gives of the packages and the configuration. What has to be known of a file
-/// is looked up once, whatever the number of tasks; a task then looks at the files in its package's folder and at those
-/// that `globalDependencies` take, and at all files only where it has a glob that is relative to the root.
+/// files. `declared` is what `Declared::new` gives of the packages and the configuration. A path has one home: the
+/// package whose folder it lies below, else the root. The default set of a task and the globs of its own folder take
+/// files whose home its owner is, and no others. What has to be known of a file is looked up once, whatever the number of
+/// tasks; a task then looks at the files whose home its owner is and at those that `globalDependencies` take, and at all
+/// files only where it has a glob that is relative to the root.
 pub fn input_places(
     alloc: Global,
     walk: &Paths,
@@ -51,9 +54,11 @@ pub fn input_places(
     tasks: &[DefinedTask],
 ) -> Result<Vec<Places>, ListErr>
     requires apart { LieApart packages.now.packages }
-    requires declared { declared.now ≡ map (home_of config.now) packages.now.packages }
-    requires tasks { AllByRecursion (λ t. t.«package» < length packages.now.packages) tasks.now }
-    ensures rows { IfOk result (λ rows. rows.items ≡ map (input_row (is_ignored (rules_in ignores.now)) config.now packages.now.packages walk.now) tasks.now) }
+    requires declared { declared.now ≡ map (home_of config.now) (owners packages.now) }
+    requires tasks { AllByRecursion (λ t. t.owner < length (owners packages.now)) tasks.now }
+    ensures rows { IfOk result (λ rows. rows.items ≡ map
+        (input_row (is_ignored (rules_in ignores.now)) config.now (owners packages.now) walk.now)
+        tasks.now) }
     ensures memory { OnlyMemory result }
 {
     let globals = global_list(alloc, config)?;

@@ -2,14 +2,15 @@
 ghost use Rattle.std.specs.Prelude.{◌≡◌, IfOk, MatchOption, None, Some, IsTrue};
 ghost use Rattle.rel_path.specs.Paths.{strip, AreNames};
 ghost use Rattle.listing.specs.Memory.{OnlyMemory};
-ghost use Rattle.task_inputs.specs.Entries.{behind, relative};
+ghost use Rattle.task_inputs.specs.Entries.{behind, relative, rest_where};
 
 use listing::ListErr;
 use rel_path::{RelPath, Text};
 use std::alloc::Global;
 
 fn strip<'a>(folder: &[Text], path: &'a [Text]) -> Option<&'a [Text]>
-    ensures { MatchOption result (strip folder.now path.now ≡ None) (λ rest. strip folder.now path.now ≡ Some rest.now) }
+    ensures { MatchOption result
+        (strip folder.now path.now ≡ None) (λ rest. strip folder.now path.now ≡ Some rest.now) }
 {
     path.strip_prefix(folder)
 }
@@ -28,11 +29,7 @@ fn path_of(alloc: Global, names: &[Text]) -> Result<RelPath, ListErr>
 }
 
 /// What is left of the path below the folder, where it lies below it.
-pub(crate) fn relative(
-    alloc: Global,
-    folder: &RelPath,
-    path: &RelPath,
-) -> Result<Option<RelPath>, ListErr>
+fn relative(alloc: Global, folder: &RelPath, path: &RelPath) -> Result<Option<RelPath>, ListErr>
     ensures value { IfOk result (λ rest. rest ≡ relative folder.now path.now) }
     ensures memory { OnlyMemory result }
 {
@@ -40,5 +37,22 @@ pub(crate) fn relative(
         None => Ok(None),
         Some([]) => Ok(None),
         Some(rest) => Ok(Some(path_of(alloc, rest)?)),
+    }
+}
+
+/// The same where the path is one of the folder's own files, and nothing elsewhere.
+pub(crate) fn rest_where(
+    alloc: Global,
+    own: bool,
+    folder: &RelPath,
+    path: &RelPath,
+) -> Result<Option<RelPath>, ListErr>
+    ensures value { IfOk result (λ rest. rest ≡ rest_where own folder.now path.now) }
+    ensures memory { OnlyMemory result }
+{
+    if own {
+        relative(alloc, folder, path)
+    } else {
+        Ok(None)
     }
 }

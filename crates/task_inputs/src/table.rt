@@ -1,9 +1,10 @@
 // The walked files with what is known of them, and the places at which a task has to look.
-ghost use Rattle.std.specs.Prelude.{◌≡◌, ◌<◌, length, filter, IfOk};
+ghost use Rattle.std.specs.Prelude.{◌≡◌, ◌<◌, length, filter, IfOk, OnOk};
 ghost use Rattle.std.specs.List.{AllByRecursion};
 ghost use Rattle.ignore_rules.specs.Ignored.{is_ignored};
 ghost use Rattle.ignore_rules.specs.Stacks.{rules_in};
 ghost use Rattle.listing.specs.Memory.{OnlyMemory};
+ghost use Rattle.task_inputs.specs.Folders.{AreHomes};
 ghost use Rattle.task_inputs.specs.Tables.{IsTable, IsLooked, looked, takes_at};
 
 use crate::declared::Declared;
@@ -16,7 +17,7 @@ use listing::ListErr;
 use rel_path::{Places, RelPath};
 use std::alloc::Global;
 
-/// What is known of the walked files: of each of them, the places of those in each package's folder, of those that
+/// What is known of the walked files: of each of them, the places of those with each home, of those that
 /// `globalDependencies` take, and of all.
 #[derive(Drop)]
 pub(crate) struct Table {
@@ -34,7 +35,9 @@ pub(crate) fn table_of(
     declared: &Declared,
     globals: &GlobList,
 ) -> Result<Table, ListErr>
-    ensures table { IfOk result (IsTable (is_ignored (rules_in ignores.now)) declared.now globals.now walk.now) }
+    ensures table { IfOk result
+        (IsTable (is_ignored (rules_in ignores.now)) declared.now globals.now walk.now) }
+    ensures homes { OnOk result (AreHomes declared.now) }
     ensures memory { OnlyMemory result }
 {
     let files = facts_of(alloc, walk, ignores, declared, globals)?;
@@ -62,7 +65,8 @@ fn taken_of(
 ) -> Result<Places, ListErr>
     requires same { length files.now ≡ length walk.now }
     requires below { AllByRecursion (λ k. k < length walk.now) places.now }
-    ensures taken { IfOk result (λ taken. taken ≡ filter (takes_at task.now files.now walk.now) places.now) }
+    ensures taken { IfOk result
+        (λ taken. taken ≡ filter (takes_at task.now files.now walk.now) places.now) }
     ensures memory { OnlyMemory result }
 {
     let mut taken = Places::new(alloc);
@@ -75,8 +79,8 @@ fn taken_of(
     Ok(taken)
 }
 
-/// The places of the files that the task takes. A task without a glob of the root looks at the files in its package's
-/// folder and at the global ones alone.
+/// The places of the files that the task takes. A task without a glob of the root looks at the files whose home its
+/// owner is and at the global ones alone.
 pub(crate) fn taken_places(
     alloc: Global,
     task: &TaskGlobs,
@@ -84,7 +88,8 @@ pub(crate) fn taken_places(
     table: &Table,
 ) -> Result<Places, ListErr>
     requires { IsLooked walk.now task.now.place table.now }
-    ensures taken { IfOk result (λ taken. taken ≡ filter (takes_at task.now table.now.files.items walk.now) (looked task.now table.now)) }
+    ensures taken { IfOk result (λ taken. taken ≡ filter
+        (takes_at task.now table.now.files.items walk.now) (looked task.now table.now)) }
     ensures memory { OnlyMemory result }
 {
     if task.is_wide() {

@@ -1,14 +1,15 @@
 // The globs of a task, and the files that it takes.
 ghost use Rattle.std.specs.Prelude.{◌≡◌, ◌<◌, ◌&&◌, not, length, IfOk};
 ghost use Rattle.listing.specs.Memory.{OnlyMemory};
-ghost use Rattle.task_inputs.specs.Entries.{relative};
-ghost use Rattle.task_inputs.specs.Facts.{IsList, IsRead, asked_by, is_at, is_wide_list, takes_by};
+ghost use Rattle.workspaces.specs.Space.{owners};
+ghost use Rattle.task_inputs.specs.Entries.{rest_where};
+ghost use Rattle.task_inputs.specs.Facts.{IsList, IsRead, asks_by, is_at, is_default_at, is_wide_list, takes_by};
 ghost use Rattle.task_inputs.specs.Rooted.{far_by};
 
 use crate::definitions::DefinedTask;
 use crate::entries::{InputList, any_reaches, any_wide, has_wide};
 use crate::files::{FileFacts, is_file_in};
-use crate::relative::relative;
+use crate::relative::rest_where;
 use listing::ListErr;
 use rel_path::{RelPath, Texts};
 use std::alloc::Global;
@@ -17,9 +18,9 @@ use workspaces::Packages;
 /// What a task asks for.
 #[derive(Debug, Drop)]
 pub(crate) struct TaskGlobs {
-    /// The number of its package.
+    /// The number of its owner.
     pub place: usize,
-    /// The folder of its package.
+    /// The folder of its owner.
     pub folder: RelPath,
     /// Its list of inputs, or none for the default set.
     pub inputs: Option<InputList>,
@@ -41,13 +42,13 @@ pub(crate) fn read_task(
     packages: &Packages,
     task: &DefinedTask,
 ) -> Result<TaskGlobs, ListErr>
-    requires { task.now.«package» < length packages.now.packages }
-    ensures read { IfOk result (IsRead packages.now.packages task.now) }
+    requires { task.now.owner < length (owners packages.now) }
+    ensures read { IfOk result (IsRead (owners packages.now) task.now) }
     ensures memory { OnlyMemory result }
 {
     Ok(TaskGlobs {
-        place: task.package as usize,
-        folder: packages.folder(task.package).copy()?,
+        place: task.owner as usize,
+        folder: packages.folder(task.owner).copy()?,
         inputs: read_list(alloc, &task.def.inputs)?,
     })
 }
@@ -61,9 +62,9 @@ fn is_at(home: Option<usize>, place: usize) -> bool
     }
 }
 
-/// Whether the file is in the default set of the package of this number.
+/// Whether the file is in the default set of the owner of this number.
 fn is_default(file: &FileFacts, place: usize) -> bool
-    ensures { result ≡ (is_at file.now.home place && not file.now.ignored) }
+    ensures { result ≡ is_default_at file.now place }
 {
     is_at(file.home, place) && !file.ignored
 }
@@ -79,9 +80,14 @@ impl TaskGlobs {
         }
     }
 
-    /// Whether it asks for the file through a glob that is relative to the root.
-    pub fn asks_from_root(&self, alloc: Global, path: &RelPath) -> Result<bool, ListErr>
-        ensures value { IfOk result (λ asks. asks ≡ far_by self.now path.now) }
+    /// Whether it asks for the file, which has this home, through a glob that is relative to the root.
+    pub fn asks_from_root(
+        &self,
+        alloc: Global,
+        home: Option<usize>,
+        path: &RelPath,
+    ) -> Result<bool, ListErr>
+        ensures value { IfOk result (λ asks. asks ≡ far_by home self.now path.now) }
         ensures memory { OnlyMemory result }
     {
         let Some(list) = &self.inputs else {
@@ -90,19 +96,20 @@ impl TaskGlobs {
         if !any_wide(&list.globs, path) {
             return Ok(false);
         }
-        let rest = relative(alloc, &self.folder, path)?;
+        let rest = rest_where(alloc, is_at(home, self.place), &self.folder, path)?;
         Ok(!any_reaches(true, &list.globs, path, &rest))
     }
 
-    /// Whether it asks for the file, which is in the default set or not.
-    fn asks(&self, alloc: Global, default: bool, path: &RelPath) -> Result<bool, ListErr>
-        ensures value { IfOk result (λ asks. asks ≡ asked_by default self.now.inputs path.now (relative self.now.folder path.now)) }
+    /// Whether it asks for the file.
+    fn asks(&self, alloc: Global, file: &FileFacts, path: &RelPath) -> Result<bool, ListErr>
+        ensures value { IfOk result (λ asks. asks ≡ asks_by self.now file.now path.now) }
         ensures memory { OnlyMemory result }
     {
+        let default = is_default(file, self.place);
         let Some(list) = &self.inputs else {
             return Ok(default);
         };
-        let rest = relative(alloc, &self.folder, path)?;
+        let rest = rest_where(alloc, is_at(file.home, self.place), &self.folder, path)?;
         let included = any_reaches(false, &list.globs, path, &rest) || list.has_default && default;
         Ok(included && !any_reaches(true, &list.globs, path, &rest))
     }
@@ -121,7 +128,7 @@ impl TaskGlobs {
         if !file.may_count {
             return Ok(false);
         }
-        let asks = self.asks(alloc, is_default(file, self.place), path)?;
+        let asks = self.asks(alloc, file, path)?;
         Ok(asks || file.global)
     }
 }

@@ -18,7 +18,8 @@ fn push_all(places: &mut Vec<u32>, more: &[u32]) -> Result<(), ListErr>
 
 /// The numbers of two ascending lists, ascending, each once.
 pub(crate) fn union(alloc: Global, first: &[u32], second: &[u32]) -> Result<Vec<u32>, ListErr>
-    ensures value { IfOk result (λ both. both.items ≡ merged (length first.now + length second.now) first.now second.now) }
+    ensures value { IfOk result (λ both. both.items
+        ≡ merged (length first.now + length second.now) first.now second.now) }
     ensures memory { OnlyMemory result }
 {
     let mut both = Vec::new(alloc);

@@ -1,10 +1,9 @@
 -- What the steps of a call answer.
-use Rattle.std.specs.Prelude.{◌≡◌, ◌≢◌, ℕ, Bool, true, false, List, Result, Ok, Err}
-use Rattle.rel_path.specs.Causes.{Counts}
+use Rattle.std.specs.Prelude.{◌≡◌, ◌≢◌, ℕ, List, Result, Ok, Err}
 use Rattle.rel_path.specs.Files.{FileMap}
 use Rattle.run_plan.specs.declared.plan.Plan.{Plan}
-use Rattle.turbo_app.specs.declared.asking.NoPlan.{NoPlan}
-use Rattle.turbo_app.specs.declared.asking.NoPlan.TheVariants.{Refused, Failed, OutOfMemory}
+use Rattle.refusals.specs.declared.stop.Stop.{Stop}
+use Rattle.refusals.specs.declared.stop.Stop.TheVariants.{Refused, Failed, OutOfMemory}
 use Rattle.cli_words.specs.declared.order.RunOrder.{RunOrder}
 use Rattle.cli_words.specs.declared.error.WordsErr.{WordsErr}
 use Rattle.cli_words.specs.declared.error.WordsErr.TheVariants as words
@@ -22,20 +21,11 @@ use Rattle.plan_laws.specs.Laws.{AsksFor}
 use Rattle.turbo_app.specs.Asking.{store_refusal}
 
 -- the plan, or the reason why there is none; a failure of the tree and want of memory say nothing
-abbrev pub AsksAs : RunOrder → List (List ℕ × List ℕ) → FileMap → Result Plan NoPlan → Type 0
+abbrev pub AsksAs : RunOrder → List (List ℕ × List ℕ) → FileMap → Result Plan Stop → Type 0
 AsksAs order env files (Ok plan) = AsksFor order env files (Ok plan)
 AsksAs order env files (Err (Refused reason)) = AsksFor order env files (Err reason)
 AsksAs order env files (Err Failed) = Unit {0}
 AsksAs order env files (Err OutOfMemory) = Unit {0}
-
-abbrev pub is_failed : NoPlan → Bool
-is_failed (Refused reason) = false
-is_failed Failed = true
-is_failed OutOfMemory = false
-
--- `Failed` comes only where the count of faults rose, and every other answer leaves it as it is
-abbrev pub HasCause : {T : Type 0} → ℕ → ℕ → Result T NoPlan → Type 0
-HasCause before now result = Counts is_failed before now result
 
 -- ---- a run
 
@@ -61,7 +51,7 @@ IsStoreRefusal opening.Failed reason = ⊥
 IsStoreRefusal opening.OutOfMemory reason = ⊥
 
 -- an error as a result
-abbrev pub raised : NoPlan → Result (Unit {0}) NoPlan
+abbrev pub raised : Stop → Result (Unit {0}) Stop
 raised stop = Err stop
 
 -- the refusal of words that are no order; want of memory is none

@@ -5,25 +5,17 @@ ghost use Rattle.rel_path.specs.Paths.{Path};
 ghost use Rattle.tree_dev.specs.Tree.{Looks};
 ghost use Rattle.run_plan.specs.Openings.{HoldsInputs};
 ghost use Rattle.run_plan.specs.Plans.{IsValidPlan};
-ghost use Rattle.turbo_app.specs.Steps.{AsksAs, HasCause};
+ghost use Rattle.refusals.specs.Stops.{HasCause};
+ghost use Rattle.turbo_app.specs.Steps.{AsksAs};
 
 use cli_words::RunOrder;
-use planner::{PlannerErr, plan_run};
-use refusals::Refusal;
+use planner::plan_run;
+use refusals::Stop;
 use rel_path::Text;
-use repository::{RepositoryErr, read_repository};
+use repository::read_repository;
 use run_plan::Plan;
 use std::alloc::Global;
 use tree_dev::Tree;
-
-/// Why there is no plan.
-#[derive(Debug, Drop)]
-pub(crate) enum NoPlan {
-    Refused(Refusal),
-    /// The tree failed.
-    Failed,
-    OutOfMemory,
-}
 
 /// The plan that an order to run asks for.
 pub(crate) fn asked<T: Tree>(
@@ -31,7 +23,7 @@ pub(crate) fn asked<T: Tree>(
     tree: &mut T,
     order: &RunOrder,
     env: &[(Text, Text)],
-) -> Result<Plan, NoPlan>
+) -> Result<Plan, Stop>
     requires none { (path : Path) → (T.state tree.old).held path ≡ false }
     requires wide { 0 < order.now.width }
     requires narrow { order.now.width ≤ width_limit }
@@ -43,14 +35,13 @@ pub(crate) fn asked<T: Tree>(
 {
     let repository = match read_repository(alloc, tree) {
         Ok(repository) => repository,
-        Err(RepositoryErr::Refused(reason)) => return Err(NoPlan::Refused(reason)),
-        Err(RepositoryErr::Failed) => return Err(NoPlan::Failed),
-        Err(RepositoryErr::OutOfMemory) => return Err(NoPlan::OutOfMemory),
+        Err(stop) => return Err(stop),
     };
+    // The errors stand one by one for the prover.
     match plan_run(alloc, tree, &repository, order, env) {
         Ok(plan) => Ok(plan),
-        Err(PlannerErr::Refused(reason)) => Err(NoPlan::Refused(reason)),
-        Err(PlannerErr::Failed) => Err(NoPlan::Failed),
-        Err(PlannerErr::OutOfMemory) => Err(NoPlan::OutOfMemory),
+        Err(Stop::Refused(reason)) => Err(Stop::Refused(reason)),
+        Err(Stop::Failed) => Err(Stop::Failed),
+        Err(Stop::OutOfMemory) => Err(Stop::OutOfMemory),
     }
 }

@@ -7,18 +7,19 @@ ghost use Rattle.refusals.specs.Refusals.{line_of, refusal_text};
 ghost use Rattle.turbo_app.specs.Answers.{IfDone, IfRefused, HasCauseIn, IsNoFault, IsQuiet, counts_of};
 ghost use Rattle.turbo_app.specs.Asking.{IsRefused, IsRefusedOrder, IsRefusedRun, HasNoOther, HasNoOtherBy};
 ghost use Rattle.rel_path.specs.Causes.{Counts};
-ghost use Rattle.turbo_app.specs.Steps.{is_failed, raised, IsWordsRefusal};
+ghost use Rattle.refusals.specs.Stops.{is_failed};
+ghost use Rattle.turbo_app.specs.Steps.{raised, IsWordsRefusal};
 ghost use Rattle.turbo_app.specs.Outcomes.{Did, RanOrder, MayChange, MayChangeBy, moment_of};
 ghost use Rattle.turbo_app.specs.Stops.{IfFault, StopsEarly, CutsRefusal, StoppedBy, StoppedRun, Stopped};
 
 use crate::Answer;
-use crate::asking::{NoPlan, asked};
+use crate::asking::asked;
 use crate::running::run_plan;
 use crate::telling::{help, refuse, tell};
 use crate::unbuilt::{COMPACT_FORM, PRUNE_FORM, SAMPLE_FORM, unbuilt_run};
 use cli_words::{Order, RunOrder, WordsErr, width_law};
 use plan_laws::order_law;
-use refusals::{DeviceFault, Refusal};
+use refusals::{DeviceFault, Refusal, Stop};
 use rel_path::Text;
 use spawn_dev::Spawner;
 use std::alloc::Global;
@@ -26,20 +27,20 @@ use store_dev::StoreDevice;
 use tree_dev::Sink;
 
 /// Answers why there is no plan.
-fn unplanned<K: Sink>(alloc: Global, stop: NoPlan, out: &mut K) -> Answer
+fn unplanned<K: Sink>(alloc: Global, stop: Stop, out: &mut K) -> Answer
     ensures not_done { IfDone result (λ _. ⊥) }
-    ensures refused { IfRefused result (λ reason. stop ≡ NoPlan.Refused reason) }
+    ensures refused { IfRefused result (λ reason. stop ≡ Stop.Refused reason) }
     ensures line { K.tells → IfRefused result (λ reason. K.written out.new ≡ K.written out.old ++ line_of (refusal_text reason)) }
-    ensures stopped { K.tells → IfFault result (StopsEarly (λ reason. stop ≡ NoPlan.Refused reason) (K.written out.old) (K.written out.new)) }
+    ensures stopped { K.tells → IfFault result (StopsEarly (λ reason. stop ≡ Stop.Refused reason) (K.written out.old) (K.written out.new)) }
     ensures cause { (before after store start : ℕ) → Counts is_failed before after (raised stop) → HasCauseIn (counts_of before store start (K.faults out.old)) (counts_of after store start (K.faults out.new)) result }
 {
     match stop {
-        NoPlan::Refused(reason) => refuse(alloc, reason, out),
-        NoPlan::Failed => {
+        Stop::Refused(reason) => refuse(alloc, reason, out),
+        Stop::Failed => {
             tell(alloc, DeviceFault::Tree, out);
             Answer::TreeFault
         }
-        NoPlan::OutOfMemory => Answer::OutOfMemory,
+        Stop::OutOfMemory => Answer::OutOfMemory,
     }
 }
 

@@ -23,7 +23,7 @@ use std::{env, fs};
 use tally::Tally;
 
 /// The groups, each in a file of its name.
-const GROUPS: [&str; 14] = [
+const GROUPS: [&str; 15] = [
     "one_package",
     "monorepo",
     "graphs",
@@ -34,6 +34,7 @@ const GROUPS: [&str; 14] = [
     "orders",
     "filters",
     "inputs",
+    "root_tasks",
     "environment",
     "refusals",
     "sizes",

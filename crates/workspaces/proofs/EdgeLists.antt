@@ -1,12 +1,12 @@
 -- Places of packages that a manifest has edges to, map by map.
 use Rattle.std.proofs.Common.{◌≡◌, ◌++◌, ◌∷◌, ◌⊎◌, inl, inr, [], List, ℕ, zero, suc, ◌<◌, Bool, true, false, cond, length, get_or, refl, sym, ◌∙◌, subst, arith}
-use Rattle.std.specs.Prelude.{Option, Some, None, bytes_eq, is_some, ◌&&◌}
+use Rattle.std.specs.Prelude.{Option, Some, None, bytes_eq, is_some, not, ◌&&◌}
 use Rattle.std.specs.Ordering.{nat_cmp}
 use Rattle.std.proofs.lemmas.Bool.{false≢true}
 use Rattle.manifest.specs.declared.manifest.Manifest.{Manifest}
 use Rattle.workspaces.specs.declared.member.Package.{Package}
 use Rattle.workspaces.specs.Lists.{ascending, places, passes_at, Has}
-use Rattle.workspaces.specs.Edges.{text_by, has_name, or_else, dep_text, fits, links, is_other, edge_from}
+use Rattle.workspaces.specs.Edges.{text_by, has_name, or_else, dep_text, fits, links, edge_from}
 use Rattle.std.proofs.Common.{nat_lt, ◌≤◌}
 use Rattle.std.proofs.lemmas.Bool.Decides.{nat_tests}
 use Rattle.workspaces.specs.Steps.{name_at, AddsEdges, AscendingNames, IsNoName}
@@ -34,10 +34,10 @@ passes_within test [] place passes = absurd (false≢true passes)
 passes_within test (p ∷ packages) zero passes = omega arith
 passes_within test (p ∷ packages) (suc place) passes = let less = passes_within test packages place passes in omega (arith, less)
 
-pub adds_none : (packages : List Package) (own : Option (List ℕ)) (m : Manifest) (old : List ℕ) → AddsEdges packages own m [] old old
+pub adds_none : (packages : List Package) (own : List ℕ) (m : Manifest) (old : List ℕ) → AddsEdges packages own m [] old old
 adds_none packages own m old = record { kept = λ place has. has; added = λ place passes has. absurd (false≢true has); exact = λ place has. inl has }
 
-module _ (packages : List Package) (own : Option (List ℕ)) (m : Manifest) (pairs : List (List ℕ × List ℕ)) (p : List ℕ × List ℕ) (old new : List ℕ) where
+module _ (packages : List Package) (own : List ℕ) (m : Manifest) (pairs : List (List ℕ × List ℕ)) (p : List ℕ × List ℕ) (old new : List ℕ) where
   -- no package has the name of one more pair, or the one that has it makes no edge
   pub adds_no : AddsEdges packages own m pairs old new → ((place : ℕ) → passes_at (edge_from own m) packages place ≡ true → name_at packages place ≡ p.0 → ⊥) → AddsEdges packages own m (pairs ++ p ∷ []) old new
   adds_no adds none = record { kept = adds.kept; added = λ place passes has. added place passes (has_name-push (name_at packages place) pairs p has); exact = adds.exact } where
@@ -75,16 +75,16 @@ some_fits : (o version : Option (List ℕ)) → fits o version ≡ true → is_s
 some_fits None version fit = absurd (false≢true fit)
 some_fits (Some text) version fit = refl
 
-edge_named : (own : Option (List ℕ)) (m : Manifest) (q : Package) → edge_from own m q ≡ true → is_some (dep_text m q.name) ≡ true
+edge_named : (own : List ℕ) (m : Manifest) (q : Package) → edge_from own m q ≡ true → is_some (dep_text m q.name) ≡ true
 unfolding edge_from links
-edge_named own m q edge = some_fits (dep_text m q.name) q.manifest.version (and_second (is_other own q.name) (links m q) edge)
+edge_named own m q edge = some_fits (dep_text m q.name) q.manifest.version (and_second (not (bytes_eq own q.name)) (links m q) edge)
 
-place_named : (own : Option (List ℕ)) (m : Manifest) (packages : List Package) (place : ℕ) → passes_at (edge_from own m) packages place ≡ true → is_some (dep_text m (name_at packages place)) ≡ true
+place_named : (own : List ℕ) (m : Manifest) (packages : List Package) (place : ℕ) → passes_at (edge_from own m) packages place ≡ true → is_some (dep_text m (name_at packages place)) ≡ true
 place_named own m [] place passes = absurd (false≢true passes)
 place_named own m (q ∷ packages) zero passes = edge_named own m q passes
 place_named own m (q ∷ packages) (suc place) passes = place_named own m packages place passes
 
-pub all_maps : (packages : List Package) (own : Option (List ℕ)) (m : Manifest) (one two three : List ℕ) → AddsEdges packages own m m.optional [] one → AddsEdges packages own m m.deps one two → AddsEdges packages own m m.dev two three
+pub all_maps : (packages : List Package) (own : List ℕ) (m : Manifest) (one two three : List ℕ) → AddsEdges packages own m m.optional [] one → AddsEdges packages own m m.deps one two → AddsEdges packages own m m.dev two three
     → ascending nat_cmp three ≡ places (edge_from own m) packages
 unfolding dep_text
 all_maps packages own m one two three first second third = are_places (edge_from own m) packages three (λ q has. exact q (third.exact q has)) (λ q passes. all q passes (or_names (text_by (name_at packages q) m.optional) (or_else (text_by (name_at packages q) m.deps) (text_by (name_at packages q) m.dev)) (place_named own m packages q passes))) where
@@ -128,7 +128,7 @@ unique_place packages up i j d less more same = by (ltb_cases i j) (ltb_cases j 
   by (inr behind) (inl after) = absurd (less_apart (get_or packages j d).name (get_or packages i d).name (rises (λ (q : Package). q.name) packages up j i d after less) (sym same))
   by (inr behind) (inr ahead) = omega arith
 
-module _ (packages : List Package) (own : Option (List ℕ)) (m : Manifest) (pairs : List (List ℕ × List ℕ)) (p : List ℕ × List ℕ) (old new : List ℕ) (adds : AddsEdges packages own m pairs old new) where
+module _ (packages : List Package) (own : List ℕ) (m : Manifest) (pairs : List (List ℕ × List ℕ)) (p : List ℕ × List ℕ) (old new : List ℕ) (adds : AddsEdges packages own m pairs old new) where
   pub pair_of_none : IsNoName packages p.0 → AddsEdges packages own m (pairs ++ p ∷ []) old new
   pair_of_none none = adds_no packages own m pairs p old new adds (λ place passes named.
       no_such packages p.0 none place (passes_within (edge_from own m) packages place passes) named)

@@ -15,3 +15,5 @@ mod NeedLists
 mod MemberRows
 mod Discovering
 pub mod Apart
+pub mod Owners
+mod Walked

@@ -1,5 +1,5 @@
 -- Which packages of a workspace depend on which, and which names they need from outside (npm docs, "workspaces" and "package.json").
-use Rattle.std.specs.Prelude.{ℕ, ◌&&◌, ◌||◌, Bool, true, false, not, if◌then◌else◌, List, [], ◌∷◌, ◌++◌, Option, Some, None, is_some, Result, Ok, Err, map, filter, nat_eq, bytes_eq, codes}
+use Rattle.std.specs.Prelude.{ℕ, ◌&&◌, ◌||◌, Bool, false, not, if◌then◌else◌, List, [], ◌∷◌, ◌++◌, Option, Some, None, is_some, Result, Ok, Err, map, filter, nat_eq, bytes_eq, codes}
 use Rattle.std.specs.List.{list_any, starts_with}
 use Rattle.semver.specs.declared.error.Error.{Error}
 use Rattle.semver.specs.Parse.{version_parts}
@@ -67,17 +67,13 @@ fits (Some text) version = is_edge text version
 unfoldable pub links : Manifest → Package → Bool
 links m q = fits (dep_text m q.name) q.manifest.version
 
-abbrev pub is_other : Option (List ℕ) → List ℕ → Bool
-is_other None name = true
-is_other (Some own) name = not (bytes_eq own name)
+-- the manifest of an owner of this name has an edge to the package
+unfoldable pub edge_from : List ℕ → Manifest → Package → Bool
+edge_from own m q = not (bytes_eq own q.name) && links m q
 
--- the manifest, that of a package of this name or the root's, has an edge to the package
-unfoldable pub edge_from : Option (List ℕ) → Manifest → Package → Bool
-edge_from own m q = is_other own q.name && links m q
-
--- one package depends on another; none on itself
+-- one owner depends on a package; none on itself
 abbrev pub has_edge : Package → Package → Bool
-has_edge p q = edge_from (Some p.name) p.manifest q
+has_edge p q = edge_from p.name p.manifest q
 
 -- ---- names from outside
 

@@ -1,5 +1,5 @@
 -- What the packages of a workspace are to one another, by their numbers in the order of their names.
-use Rattle.std.specs.Prelude.{◌≡◌, ◌<◌, ◌^◌, ℕ, Bool, List, length, map, None}
+use Rattle.std.specs.Prelude.{◌≡◌, ◌<◌, ◌^◌, ℕ, Bool, List, length, map}
 use Rattle.std.specs.List.{AllByRecursion}
 use Rattle.std.specs.List.Sorted.{IsStrictlySortedBy}
 use Rattle.manifest.specs.Manifest.{AreAscending}
@@ -8,10 +8,10 @@ use Rattle.workspaces.specs.declared.member.Package.{Package}
 use Rattle.workspaces.specs.declared.needs.Needs.{Needs}
 use Rattle.workspaces.specs.declared.packages.Packages.TheInside.{Inside}
 use Rattle.workspaces.specs.Lists.{places, passes_at}
-use Rattle.workspaces.specs.Edges.{edge_from, has_edge, needs_of}
-use Rattle.workspaces.specs.Space.{Space, IsProper}
+use Rattle.workspaces.specs.Edges.{has_edge, needs_of}
+use Rattle.workspaces.specs.Space.{Space, IsProper, root_package}
 
--- the packages that a package depends on, and those that depend on it
+-- the packages that an owner depends on, and those that depend on a package
 unfoldable pub edges_of : List Package → Package → List ℕ
 edges_of packages member = places (has_edge member) packages
 
@@ -35,7 +35,7 @@ pub record IsFit (packages : List Package) : Type 0 where
   pub maps : AllByRecursion (λ member. AreAscending member.manifest) packages
 
 abbrev pub space_in : Inside → Space
-space_in a = record { root = a.root; packages = a.packages.items }
+space_in a = record { root = a.root.manifest; packages = a.packages.items }
 
 -- what is kept beside the packages is what they say
 pub record IsWhole (a : Inside) : Type 0 where
@@ -44,5 +44,6 @@ pub record IsWhole (a : Inside) : Type 0 where
   pub edges : a.edges.items ≡ map (edges_of a.packages.items) a.packages.items
   pub users : a.users.items ≡ map (users_of a.packages.items) a.packages.items
   pub needs : a.needs.items ≡ map (needs_by a.packages.items) a.packages.items
-  pub root_edges : a.root_edges ≡ places (edge_from None a.root) a.packages.items
-  pub root_needs : a.root_needs ≡ needs_of a.packages.items a.root
+  pub root : a.root ≡ root_package a.root.manifest
+  pub root_edges : a.root_edges ≡ edges_of a.packages.items a.root
+  pub root_needs : a.root_needs ≡ needs_by a.packages.items a.root

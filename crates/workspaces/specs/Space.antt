@@ -1,9 +1,9 @@
 -- The packages of a workspace, as its root manifest, the walked files and their bytes say (npm docs, "workspaces").
-use Rattle.std.specs.Prelude.{ℕ, ◌≡◌, ◌≢◌, ◌==◌, ◌&&◌, ◌⊎◌, Bool, true, false, not, if◌then◌else◌, List, [], ◌∷◌, ◌++◌, length, Option, Some, None, Result, Ok, Err, MatchResult, AllPairs, map, filter, unwrap_or, bytes_eq, codes}
+use Rattle.std.specs.Prelude.{ℕ, ◌≡◌, ◌≢◌, ◌==◌, ◌<◌, ◌&&◌, ◌⊎◌, Bool, true, false, not, if◌then◌else◌, List, [], ◌∷◌, ◌++◌, length, Option, Some, None, Result, Ok, Err, MatchResult, AllPairs, map, filter, unwrap_or, bytes_eq, codes}
 use Rattle.std.specs.Option.{option_map}
-use Rattle.std.specs.List.{AllByRecursion, filter_map}
+use Rattle.std.specs.List.{AllByRecursion, HoldsAt, filter_map, find, list_any}
 use Rattle.std.specs.List.Sorted.{IsStrictlySortedBy}
-use Rattle.rel_path.specs.Paths.{Path, name_cmp, path_cmp, strip}
+use Rattle.rel_path.specs.Paths.{Path, name_eq, name_cmp, path_cmp, strip, is_among}
 use Rattle.rel_path.specs.Files.{FileMap}
 use Rattle.rel_path.specs.Limits.{file_limit}
 use Rattle.tree_dev.specs.declared.tree.Found.{Found}
@@ -24,6 +24,27 @@ use Rattle.workspaces.specs.Entries.{globs_of, globs_fault}
 pub record Space : Type 0 where
   pub root : Manifest
   pub packages : List Package
+
+-- ---- who may have tasks: each package and, behind them, the root
+
+abbrev pub root_name : List ℕ
+root_name = codes "//"
+
+-- the root as a package, with the root folder and the root manifest
+abbrev pub root_package : Manifest → Package
+root_package root = record { name = root_name; folder = []; manifest = root }
+
+-- the packages keep their numbers, and the root's is how many there are
+abbrev pub owners : Space → List Package
+owners space = space.packages ++ root_package space.root ∷ []
+
+-- the first owner of the name
+unfoldable pub owner_named : Space → List ℕ → Option Package
+owner_named space name = find (λ p. name_eq p.name name) (owners space)
+
+-- the owner of this number is the one that the name means
+abbrev pub IsOwnerAt : Space → List ℕ → ℕ → Type 0
+IsOwnerAt space name o = (o < length (owners space)) × HoldsAt (λ p. owner_named space name ≡ Some p) (owners space) o
 
 -- ---- the folders that are packages
 
@@ -73,6 +94,10 @@ unfoldable pub packages_at : FileMap → List Path → Result (List Package) Spa
 packages_at files [] = Ok []
 packages_at files (folder ∷ folders) = and_more (package_at folder (within file_limit (files (manifest_in folder)))) (packages_at files folders)
 
+-- each package's manifest is one of the files
+abbrev pub AreWalked : List Path → List Package → Type 0
+AreWalked walk packages = AllByRecursion (λ p. is_among walk (manifest_in p.folder) ≡ true) packages
+
 -- ---- what they may not be to one another
 
 abbrev pub is_proper : Option Path → Bool
@@ -83,6 +108,17 @@ is_proper (Some (name ∷ names)) = true
 -- a proper extension of the folder
 abbrev pub lies_below : Path → Path → Bool
 lies_below path folder = is_proper (strip folder path)
+
+abbrev pub is_root_folder : Path → Bool
+is_root_folder folder = length folder == 0
+
+-- the path lies below one of the folders that is not the root's
+abbrev pub lies_in_some : List Path → Path → Bool
+lies_in_some folders path = list_any (λ f. not (is_root_folder f) && lies_below path f) folders
+
+-- of these folders this one is the path's home: the path lies below it and, where it is the root's, below no other one
+unfoldable pub is_home_of : List Path → Path → Path → Bool
+is_home_of folders folder path = lies_below path folder && not (is_root_folder folder && lies_in_some folders path)
 
 -- of neighbours in folder order, the first of which the second lies inside the first: the least package folder below another, and that one
 unfoldable pub inside_fault : List Package → Option SpaceErr

@@ -52,7 +52,7 @@ name_at (member ∷ packages) zero = member.name
 name_at (member ∷ packages) (suc place) = name_at packages place
 
 -- places of packages with an edge were added: of each whose name is among the pairs' names, and of no other
-pub record AddsEdges (packages : List Package) (own : Option (List ℕ)) (m : Manifest) (pairs : List (List ℕ × List ℕ)) (old new : List ℕ) : Type 0 where
+pub record AddsEdges (packages : List Package) (own : List ℕ) (m : Manifest) (pairs : List (List ℕ × List ℕ)) (old new : List ℕ) : Type 0 where
   pub kept : (place : ℕ) → Has old place → Has new place
   pub added : (place : ℕ) → passes_at (edge_from own m) packages place ≡ true → has_name (name_at packages place) pairs ≡ true → Has new place
   pub exact : (place : ℕ) → Has new place → Has old place ⊎ (passes_at (edge_from own m) packages place ≡ true)

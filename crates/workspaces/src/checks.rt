@@ -28,7 +28,8 @@ fn inside(outer: &Package, inner: &Package) -> SpaceErr
 
 /// The two packages have one name.
 fn twice(first: &Package, second: &Package) -> SpaceErr
-    ensures refusal { MayRefuse (Some (SpaceErr.NameTwice first.now.name first.now.folder second.now.folder)) result }
+    ensures refusal { MayRefuse
+        (Some (SpaceErr.NameTwice first.now.name first.now.folder second.now.folder)) result }
     ensures no_failure { is_failed result ≡ false }
 {
     match (first.name.copy(), first.folder.copy(), second.folder.copy()) {
@@ -44,7 +45,8 @@ fn twice(first: &Package, second: &Package) -> SpaceErr
 /// That of packages, in the order of their folders, none lies inside the one before it.
 #[tactic(auto, unfolding(crate::specs::Space::inside_fault))]
 pub(crate) fn check_inside(packages: &[Package]) -> Result<(), SpaceErr>
-    ensures found { MatchResult result (λ _. inside_fault packages.now ≡ None) (MayRefuse (inside_fault packages.now)) }
+    ensures found { MatchResult result
+        (λ _. inside_fault packages.now ≡ None) (MayRefuse (inside_fault packages.now)) }
     ensures no_failure { HasCause 0 0 result }
 {
     let mut rest = packages;
@@ -62,7 +64,8 @@ pub(crate) fn check_inside(packages: &[Package]) -> Result<(), SpaceErr>
 /// That of packages, in the order of their names, none has the name of the one before it.
 #[tactic(auto, unfolding(crate::specs::Space::twice_fault))]
 pub(crate) fn check_twice(packages: &[Package]) -> Result<(), SpaceErr>
-    ensures found { MatchResult result (λ _. twice_fault packages.now ≡ None) (MayRefuse (twice_fault packages.now)) }
+    ensures found { MatchResult result
+        (λ _. twice_fault packages.now ≡ None) (MayRefuse (twice_fault packages.now)) }
     ensures no_failure { HasCause 0 0 result }
 {
     let mut rest = packages;

@@ -5,7 +5,7 @@ ghost use Rattle.tree_dev.specs.Tree.{Looks};
 ghost use Rattle.manifest.specs.Manifest.{AreAscending};
 ghost use Rattle.workspaces.specs.Lists.{ascending};
 ghost use Rattle.workspaces.specs.Order.{package_cmp};
-ghost use Rattle.workspaces.specs.Space.{space_of, checks_fault, AreApart, Discovers};
+ghost use Rattle.workspaces.specs.Space.{space_of, checks_fault, AreApart, AreWalked, Discovers};
 ghost use Rattle.workspaces.specs.Reading.{DifferByFolder};
 ghost use Rattle.workspaces.specs.Steps.{HasCause, MayRefuse, AscendingNames};
 
@@ -23,10 +23,12 @@ use tree_dev::Tree;
 fn checked(packages: Vec<Package>) -> Result<Vec<Package>, SpaceErr>
     requires { DifferByFolder packages.items }
     ensures found { MatchResult result
-        (λ sorted. (checks_fault packages.items ≡ None) × (sorted.items ≡ ascending package_cmp packages.items))
+        (λ sorted. (checks_fault packages.items ≡ None)
+        × (sorted.items ≡ ascending package_cmp packages.items))
         (MayRefuse (checks_fault packages.items)) }
     ensures names { IfOk result (λ sorted. AscendingNames sorted.items) }
-    ensures apart { IfOk result (λ sorted. AllPairs (λ p q. AreApart p.folder q.folder) sorted.items) }
+    ensures apart { IfOk result
+        (λ sorted. AllPairs (λ p q. AreApart p.folder q.folder) sorted.items) }
     ensures few { IfOk result (λ sorted. length sorted.items < 2 ^ 32) }
     ensures no_failure { HasCause 0 0 result }
 {
@@ -45,7 +47,8 @@ fn checked(packages: Vec<Package>) -> Result<Vec<Package>, SpaceErr>
 /// it whole; a leading `./` and a trailing `/` of an entry are dropped, and one with a `!` in front then excludes. The
 /// refusals come in this order: `Glob`, for the first entry that is no glob; `TooLarge` and `Manifest` of the first
 /// package in the order of folders; `Inside`, for the least package folder that lies in another; `NameTwice`, for the
-/// least name that two packages have, with the first two folders.
+/// least name that two packages have, with the first two folders. Whatever the tree tells, the manifest of each package
+/// is a walked file.
 pub fn discover<T: Tree>(
     alloc: Global,
     tree: &mut T,
@@ -56,6 +59,7 @@ pub fn discover<T: Tree>(
     requires held { (path : Path) → (T.state tree.old).held path ≡ false }
     ensures looks { Looks (T.state tree.old) (T.state tree.new) }
     ensures found { T.tells → Discovers (space_of (T.state tree.old).files walk.now root) result }
+    ensures walked { IfOk result (λ space. AreWalked walk.now space.packages) }
     ensures cause { HasCause (T.state tree.old).faults (T.state tree.new).faults result }
 {
     let globs = read_globs(alloc, &root)?;

@@ -24,7 +24,8 @@ fn is_local(text: &str) -> bool
 
 /// Whether the range admits the version, where there is one and SemVer reads it.
 fn admits(alloc: Global, bounds: &Range, version: &Option<Text>) -> Result<bool, SpaceErr>
-    ensures value { IfOk result (λ admitted. admitted ≡ admits_in (Some bounds.now) (release_in version.now)) }
+    ensures value { IfOk result
+        (λ admitted. admitted ≡ admits_in (Some bounds.now) (release_in version.now)) }
     ensures memory { OnlyMemory result }
 {
     let Some(version) = version else {

@@ -81,7 +81,9 @@ fn entry_pointer(alloc: Global, object_form: bool, index: u32) -> Result<Text, S
 
 /// The entry of that number is no glob.
 fn refusal(alloc: Global, root: &Manifest, index: u32, fault: GlobErr) -> SpaceErr
-    ensures refusal { MayRefuse (Some (SpaceErr.Glob (entry_pointer root.now.object_form index) (moved (dropped (slice_index_or root.now.workspaces index [])) fault))) result }
+    ensures refusal { MayRefuse
+        (Some (SpaceErr.Glob (entry_pointer root.now.object_form index)
+        (moved (dropped (slice_index_or root.now.workspaces index [])) fault))) result }
     ensures no_failure { is_failed result ≡ false }
 {
     let by = dropped(root.workspaces.as_slice(), index);

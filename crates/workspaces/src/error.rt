@@ -18,7 +18,7 @@ pub enum SpaceErr {
         pointer: Text,
         fault: GlobErr,
     },
-    /// The manifest at the path has more than 16 MiB.
+    /// The manifest at the path has more than 256 MiB.
     #[error("a manifest is too large")]
     TooLarge {
         path: RelPath,

@@ -23,3 +23,5 @@ pub use error::SpaceErr;
 pub use member::Package;
 pub use needs::Needs;
 pub use packages::Packages;
+pub use reach::marked;
+pub use users::users_of;

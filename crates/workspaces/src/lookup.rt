@@ -36,7 +36,8 @@ pub(crate) fn has_name(pairs: &Pairs, name: &Text) -> bool
 /// The place of the package of that name.
 pub(crate) fn package_by(packages: &[Package], name: &Text) -> Option<usize>
     requires { AscendingNames packages.now }
-    ensures { MatchOption result (IsNoName packages.now name.now) (IsNamedAt packages.now name.now) }
+    ensures { MatchOption result
+        (IsNoName packages.now name.now) (IsNamedAt packages.now name.now) }
 {
     match packages.binary_search_by(|package| package.name.cmp(name)) {
         Ok(place) => Some(place),

@@ -82,8 +82,10 @@ fn add_needs(
 ) -> Result<(), SpaceErr>
     requires packages { AscendingNames packages.now }
     requires manifest { AreAscending manifest.now }
-    ensures hard { OnOk result (found.new.hard.items ≡ found.old.hard.items ++ filter (is_hard_need packages.now manifest.now) (names_by pairs.now)) }
-    ensures soft { OnOk result (found.new.soft.items ≡ found.old.soft.items ++ filter (is_soft_need packages.now manifest.now) (names_by pairs.now)) }
+    ensures hard { OnOk result (found.new.hard.items ≡ found.old.hard.items
+        ++ filter (is_hard_need packages.now manifest.now) (names_by pairs.now)) }
+    ensures soft { OnOk result (found.new.soft.items ≡ found.old.soft.items
+        ++ filter (is_soft_need packages.now manifest.now) (names_by pairs.now)) }
     ensures memory { OnlyMemory result }
 {
     for pair in pairs.as_slice() {

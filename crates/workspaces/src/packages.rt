@@ -2,10 +2,8 @@
 ghost use Rattle.std.specs.Prelude.{◌≡◌, ◌<◌, ◌^◌, ℕ, length, map, None, Some, IfOk, IfErr, MatchOption};
 ghost use Rattle.std.specs.List.{HoldsAt};
 ghost use Rattle.manifest.specs.Manifest.{AreAscending};
-ghost use Rattle.workspaces.specs.Edges.{edge_from, needs_of};
-ghost use Rattle.workspaces.specs.Lists.{places};
 ghost use Rattle.workspaces.specs.Reach.{IsReached, AreBelow};
-ghost use Rattle.workspaces.specs.Space.{Space, IsProper};
+ghost use Rattle.workspaces.specs.Space.{Space, IsProper, root_package, owners, owner_named, IsOwnerAt};
 ghost use Rattle.workspaces.specs.Members.{edges_of, users_of, leads, leads_back, needs_by, IsFit};
 ghost use Rattle.workspaces.specs.Steps.{OnlyMemory, IsNoName, IsNamedAt};
 
@@ -17,14 +15,17 @@ use crate::users::users_of;
 use crate::{Needs, Package, SpaceErr};
 use manifest::Manifest;
 use rel_path::{Places, RelPath, Text};
-use std::alloc::Global;
+use std::alloc::{AllocError, Global};
 use std::marker::Model;
 
-/// The packages of a workspace, ascending by name, and its root manifest. A package is named by its number in this
-/// order.
+/// The packages of a workspace, ascending by name, and its root manifest.
+///
+/// An owner is what may have tasks: each package, named by its number in this order, and behind them the root, whose
+/// number is how many packages there are. The root is called `//` (Turborepo docs, "Root tasks"), has the root folder
+/// and the root manifest, and nothing depends on it.
 #[derive(Debug, Drop)]
 pub struct Packages {
-    root: Manifest,
+    root: Package,
     packages: Vec<Package>,
     edges: Vec<Places>,
     users: Vec<Places>,
@@ -53,7 +54,7 @@ fn all_edges(alloc: Global, packages: &[Package]) -> Result<Vec<Places>, SpaceEr
 {
     let mut rows = Vec::new(alloc);
     for member in packages {
-        rows.push(edge_places(alloc, packages, Some(&member.name), &member.manifest)?)?;
+        rows.push(edge_places(alloc, packages, &member.name, &member.manifest)?)?;
     }
     Ok(rows)
 }
@@ -71,6 +72,17 @@ fn all_needs(alloc: Global, packages: &[Package]) -> Result<Vec<Needs>, SpaceErr
     Ok(needs)
 }
 
+/// The root as an owner.
+fn root_package(alloc: Global, root: Manifest) -> Result<Package, AllocError>
+    ensures value { IfOk result (λ owner. owner ≡ root_package root) }
+{
+    Ok(Package {
+        name: Text::read(alloc, "//")?,
+        folder: RelPath::root(alloc),
+        manifest: root,
+    })
+}
+
 impl Packages {
     pub(crate) fn new(
         alloc: Global,
@@ -80,14 +92,16 @@ impl Packages {
         requires fit { IsFit packages.items }
         requires proper { IsProper (record { root = root; packages = packages.items }) }
         requires root { AreAscending root }
-        ensures value { IfOk result (λ space. space ≡ record { root = root; packages = packages.items }) }
+        ensures value { IfOk result
+            (λ space. space ≡ record { root = root; packages = packages.items }) }
         ensures memory { OnlyMemory result }
     {
         let edges = all_edges(alloc, packages.as_slice())?;
         let users = users_of(alloc, edges.as_slice())?;
         let needs = all_needs(alloc, packages.as_slice())?;
-        let root_edges = edge_places(alloc, packages.as_slice(), None, &root)?;
-        let root_needs = needs_of(alloc, packages.as_slice(), &root)?;
+        let root = root_package(alloc, root)?;
+        let root_edges = edge_places(alloc, packages.as_slice(), &root.name, &root.manifest)?;
+        let root_needs = needs_of(alloc, packages.as_slice(), &root.manifest)?;
         Ok(Packages {
             root,
             packages,
@@ -99,20 +113,33 @@ impl Packages {
         })
     }
 
-    /// How many packages there are.
+    /// How many packages there are, which is the number of the root among the owners.
     pub fn count(&self) -> u32
         ensures value { result ≡ length self.now.packages }
+        ensures root { result < length (owners self.now) }
         ensures proper { IsProper self.now }
     {
         self.packages.len() as u32
     }
 
-    /// The name of the package.
-    pub fn name(&self, p: u32) -> &Text
-        requires { p < length self.now.packages }
-        ensures { HoldsAt (λ member. result.now ≡ member.name) self.now.packages p }
+    fn owner(&self, o: u32) -> &Package
+        requires { o < length (owners self.now) }
+        ensures { HoldsAt (λ p. result.now ≡ p) (owners self.now) o }
     {
-        &self.packages[p as usize].name
+        let at = o as usize;
+        if at < self.packages.len() {
+            &self.packages[at]
+        } else {
+            &self.root
+        }
+    }
+
+    /// The name of the owner.
+    pub fn name(&self, o: u32) -> &Text
+        requires { o < length (owners self.now) }
+        ensures { HoldsAt (λ p. result.now ≡ p.name) (owners self.now) o }
+    {
+        &self.owner(o).name
     }
 
     /// The number of the package of that name. It takes no memory.
@@ -126,73 +153,85 @@ impl Packages {
         }
     }
 
-    /// The folder of the package, which is not the root.
-    pub fn folder(&self, p: u32) -> &RelPath
-        requires { p < length self.now.packages }
-        ensures { HoldsAt (λ member. result.now ≡ member.folder) self.now.packages p }
+    /// The number of the owner of that name: of the package that has it, and for `//`, where no package has it, of the
+    /// root. It takes no memory.
+    pub fn owner_of(&self, name: &Text) -> Option<u32>
+        ensures { MatchOption result
+            (owner_named self.now name.now ≡ None) (IsOwnerAt self.now name.now) }
     {
-        &self.packages[p as usize].folder
+        match self.number_of(name) {
+            Some(p) => Some(p),
+            None => {
+                if self.root.name == *name {
+                    Some(self.count())
+                } else {
+                    None
+                }
+            }
+        }
     }
 
-    /// The manifest of the package.
-    pub fn manifest(&self, p: u32) -> &Manifest
-        requires { p < length self.now.packages }
-        ensures { HoldsAt (λ member. result.now ≡ member.manifest) self.now.packages p }
+    /// The folder of the owner; that of a package is not the root.
+    pub fn folder(&self, o: u32) -> &RelPath
+        requires { o < length (owners self.now) }
+        ensures { HoldsAt (λ p. result.now ≡ p.folder) (owners self.now) o }
     {
-        &self.packages[p as usize].manifest
+        &self.owner(o).folder
     }
 
-    /// The packages that the package depends on, ascending; it is not among them.
-    pub fn edges(&self, p: u32) -> &Places
-        requires { p < length self.now.packages }
-        ensures { HoldsAt (λ member. result.now ≡ edges_of self.now.packages member) self.now.packages p }
+    /// The manifest of the owner.
+    pub fn manifest(&self, o: u32) -> &Manifest
+        requires { o < length (owners self.now) }
+        ensures { HoldsAt (λ p. result.now ≡ p.manifest) (owners self.now) o }
     {
-        &self.edges[p as usize]
+        &self.owner(o).manifest
     }
 
-    /// The names that the package needs from outside.
-    pub fn needs(&self, p: u32) -> &Needs
-        requires { p < length self.now.packages }
-        ensures { HoldsAt (λ member. result.now ≡ needs_by self.now.packages member) self.now.packages p }
+    /// The packages that the owner depends on, ascending; it is not among them.
+    pub fn edges(&self, o: u32) -> &Places
+        requires { o < length (owners self.now) }
+        ensures { HoldsAt (λ p. result.now ≡ edges_of self.now.packages p) (owners self.now) o }
     {
-        &self.needs[p as usize]
+        let at = o as usize;
+        if at < self.edges.len() {
+            &self.edges[at]
+        } else {
+            &self.root_edges
+        }
+    }
+
+    /// The names that the owner needs from outside.
+    pub fn needs(&self, o: u32) -> &Needs
+        requires { o < length (owners self.now) }
+        ensures { HoldsAt (λ p. result.now ≡ needs_by self.now.packages p) (owners self.now) o }
+    {
+        let at = o as usize;
+        if at < self.needs.len() {
+            &self.needs[at]
+        } else {
+            &self.root_needs
+        }
     }
 
     /// The root manifest.
     pub fn root(&self) -> &Manifest
         ensures { result.now ≡ self.now.root }
     {
-        &self.root
-    }
-
-    /// The packages that the root manifest depends on, ascending.
-    pub fn root_edges(&self) -> &Places
-        ensures { result.now ≡ places (edge_from None self.now.root) self.now.packages }
-    {
-        &self.root_edges
-    }
-
-    /// The names that the root manifest needs from outside.
-    pub fn root_needs(&self) -> &Needs
-        ensures { result.now ≡ needs_of self.now.packages self.now.root }
-    {
-        &self.root_needs
+        &self.root.manifest
     }
 
     /// The packages that those of the set depend on, over any number of edges but none, ascending.
-    pub fn below(&self, alloc: Global, set: &Places) -> Result<Places, SpaceErr>
+    pub fn below(&self, alloc: Global, set: &Places) -> Result<Places, AllocError>
         requires { AreBelow (length self.now.packages) set.now }
         ensures reached { IfOk result (IsReached (leads self.now.packages) set.now) }
-        ensures memory { OnlyMemory result }
     {
         reached(alloc, self.edges.as_slice(), set.as_slice())
     }
 
     /// The packages that depend on those of the set, over any number of edges but none, ascending.
-    pub fn above(&self, alloc: Global, set: &Places) -> Result<Places, SpaceErr>
+    pub fn above(&self, alloc: Global, set: &Places) -> Result<Places, AllocError>
         requires { AreBelow (length self.now.packages) set.now }
         ensures reached { IfOk result (IsReached (leads_back self.now.packages) set.now) }
-        ensures memory { OnlyMemory result }
     {
         reached(alloc, self.users.as_slice(), set.as_slice())
     }

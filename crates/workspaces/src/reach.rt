@@ -2,12 +2,10 @@
 ghost use Rattle.std.specs.Prelude.{◌≡◌, ◌<◌, ◌≤◌, ◌^◌, IfOk, OnOk, length};
 ghost use Rattle.workspaces.specs.Lists.{places};
 ghost use Rattle.workspaces.specs.Reach.{IsReached, leads_in, AreBelow, AreRowsBelow};
-ghost use Rattle.workspaces.specs.Steps.{OnlyMemory};
 ghost use Rattle.workspaces.specs.Marks.{Adds, itself};
 
-use crate::SpaceErr;
 use rel_path::Places;
-use std::alloc::Global;
+use std::alloc::{AllocError, Global};
 
 // Which places were reached, and those of them whose edges are still to be followed.
 #[derive(Drop)]
@@ -17,10 +15,11 @@ struct Front {
 }
 
 /// Adds places, where they are new.
-fn add(front: &mut Front, places: &[u32]) -> Result<(), SpaceErr>
+fn add(front: &mut Front, places: &[u32]) -> Result<(), AllocError>
     requires { AreBelow (length front.old.reached.items) places.now }
-    ensures added { OnOk result (Adds places.now front.old.reached.items front.old.waiting.items front.new.reached.items front.new.waiting.items) }
-    ensures memory { OnlyMemory result }
+    ensures added { OnOk result (Adds places.now
+        front.old.reached.items front.old.waiting.items
+        front.new.reached.items front.new.waiting.items) }
 {
     for place in places {
         let at = *place as usize;
@@ -32,11 +31,10 @@ fn add(front: &mut Front, places: &[u32]) -> Result<(), SpaceErr>
     Ok(())
 }
 
-/// The places that are marked.
-fn marked(alloc: Global, marks: &[bool]) -> Result<Places, SpaceErr>
+/// The places that are marked, ascending. A mark stands for each place.
+pub fn marked(alloc: Global, marks: &[bool]) -> Result<Places, AllocError>
     requires { length marks.now < 2 ^ 32 }
     ensures value { IfOk result (λ found. found ≡ places itself marks.now) }
-    ensures memory { OnlyMemory result }
 {
     let mut found = Places::new(alloc);
     for (place, mark) in marks.iter().enumerate() {
@@ -48,12 +46,11 @@ fn marked(alloc: Global, marks: &[bool]) -> Result<Places, SpaceErr>
 }
 
 /// What at least one edge reaches from some places, ascending. `edges` has a row for each place.
-pub(crate) fn reached(alloc: Global, edges: &[Places], from: &[u32]) -> Result<Places, SpaceErr>
+pub(crate) fn reached(alloc: Global, edges: &[Places], from: &[u32]) -> Result<Places, AllocError>
     requires few { length edges.now < 2 ^ 32 }
     requires rows { AreRowsBelow (length edges.now) edges.now }
     requires from { AreBelow (length edges.now) from.now }
     ensures reached { IfOk result (IsReached (leads_in edges.now) from.now) }
-    ensures memory { OnlyMemory result }
 {
     let mut front = Front {
         reached: vec![in alloc; false; edges.len()]?,

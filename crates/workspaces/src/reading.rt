@@ -75,7 +75,8 @@ fn read_package<T: Tree>(
 ) -> Result<Option<Package>, SpaceErr>
     requires { (path : Path) → (T.state tree.old).held path ≡ false }
     ensures looks { Looks (T.state tree.old) (T.state tree.new) }
-    ensures found { T.tells → Discovers (package_at folder.now (within file_limit ((T.state tree.old).files (manifest_in folder.now)))) result }
+    ensures found { T.tells → Discovers (package_at folder.now
+        (within file_limit ((T.state tree.old).files (manifest_in folder.now)))) result }
     ensures own { IfOk result (λ member. IfSome member (IsReadIn folder.now)) }
     ensures cause { HasCause (T.state tree.old).faults (T.state tree.new).faults result }
 {
@@ -111,7 +112,8 @@ pub(crate) fn read_packages<T: Tree>(
     ensures looks { Looks (T.state tree.old) (T.state tree.new) }
     ensures found { T.tells → MatchResult result
         (λ packages. packages_at (T.state tree.old).files folders.now ≡ Ok packages.items)
-        (λ e. (e ≡ SpaceErr.OutOfMemory) ⊎ ((e ≡ SpaceErr.Failed) ⊎ (packages_at (T.state tree.old).files folders.now ≡ Err e))) }
+        (λ e. (e ≡ SpaceErr.OutOfMemory)
+        ⊎ ((e ≡ SpaceErr.Failed) ⊎ (packages_at (T.state tree.old).files folders.now ≡ Err e))) }
     ensures own { IfOk result (λ packages. AreReadIn folders.now packages.items) }
     ensures cause { HasCause (T.state tree.old).faults (T.state tree.new).faults result }
 {

@@ -1,5 +1,5 @@
-use Rattle.std.proofs.Common.{ap, sym, ◌∙◌, length, arith}
-use Rattle.collect.proofs.Whole.{stop_plan, stop_rules, stop_gather, stop_total, collected, rules_among, rules_sorted, some_listing, tasks_stand, tasks_count, uses_count, rows_count, rows_below, made_as}
+use Rattle.std.proofs.Common.{ap, ◌∙◌, length, arith}
+use Rattle.collect.proofs.Whole.{stop_plan, stop_rules, stop_gather, stop_total, collected, rules_among, rules_sorted, some_listing, tasks_stand, homes_count, jobs_fit, made_as}
 use Rattle.collect.proofs.collecting.collect.Goals as goal
 
 pub returns-in-Err-clause-collects : goal.returns-in-Err-clause-collects
@@ -27,47 +27,38 @@ returns-then-gathered-gt-MAX_INPUT_BYTES-clause-collects g c = λ told.
     stop_total _ _ _ _ c.args.env.now _ c.in-Ok.plan c.in-Ok.ensures (g.T.Tree.state c.args.tree.now).files c.requires.ascend c.in-Ok-read_all.ignores c.as_slice.result.now c.as_slice.ensures (c.in-Ok-read_all.ensures.reads told) c.in-Ok-rows_of.rows c.in-Ok-rows_of.ensures.rows
     (g.T.Tree.state c.read_all.new.tree).files c.in-Ok-read_all.ensures.looks.files c.deref.result.now c.deref.ensures.value c.as_slice-2.result.now c.as_slice-2.ensures c.in-Ok-gather.gathered (c.in-Ok-gather.ensures.reads told) (omega (arith, c.if-gathered-gt-MAX_INPUT_BYTES.true))
 
-pub all_parts-requires-clause-numbers : goal.all_parts-requires-clause-numbers
-all_parts-requires-clause-numbers g c = rw c.deref-3.ensures.value (tasks_stand _ _ _ _ c.args.env.now _ c.in-Ok.plan c.in-Ok.ensures)
+pub parts_of-requires-clause-homes : goal.parts_of-requires-clause-homes
+parts_of-requires-clause-homes g c = homes_count _ _ _ _ c.args.env.now _ c.in-Ok.plan c.in-Ok.ensures
 
-pub all_parts-requires-clause-same : goal.all_parts-requires-clause-same
-all_parts-requires-clause-same g c = ap length c.deref-2.ensures.value ∙ c.in-Ok-gather.ensures.same ∙ ap length (c.as_slice-2.ensures ∙ sym c.as_slice-3.ensures)
+pub parts_of-requires-clause-same : goal.parts_of-requires-clause-same
+parts_of-requires-clause-same g c = ap length c.deref-2.ensures.value ∙ c.in-Ok-gather.ensures.same ∙ ap length c.as_slice-2.ensures
 
-pub all_parts-requires-clause-below : goal.all_parts-requires-clause-below
-all_parts-requires-clause-below g c = rows_below _ _ _ _ c.args.env.now _ c.in-Ok.plan c.in-Ok.ensures _ c.in-Ok-rows_of.rows c.in-Ok-rows_of.ensures.rows c.as_slice-3.result.now c.as_slice-3.ensures c.deref-4.result.now c.deref-4.ensures.value
+pub parts_of-requires-clause-fit : goal.parts_of-requires-clause-fit
+parts_of-requires-clause-fit g c = jobs_fit _ _ _ _ c.args.env.now _ c.in-Ok.plan c.in-Ok.ensures _ c.in-Ok-rows_of.rows c.in-Ok-rows_of.ensures.rows
 
-pub all_parts-requires-clause-tasks : goal.all_parts-requires-clause-tasks
-all_parts-requires-clause-tasks g c = ap length c.deref-3.ensures.value ∙ tasks_count _ _ _ _ c.args.env.now _ c.in-Ok.plan c.in-Ok.ensures
-
-pub all_parts-requires-clause-rows : goal.all_parts-requires-clause-rows
-all_parts-requires-clause-rows g c = ap length c.deref-4.ensures.value ∙ rows_count _ _ _ _ c.args.env.now _ c.in-Ok.plan c.in-Ok.ensures _ c.in-Ok-rows_of.rows c.in-Ok-rows_of.ensures.rows
-
-pub all_parts-requires-clause-uses : goal.all_parts-requires-clause-uses
-all_parts-requires-clause-uses g c = ap length c.deref-5.ensures.value ∙ uses_count _ _ _ _ c.args.env.now _ c.in-Ok.plan c.in-Ok.ensures
-
-pub returns-in-Ok-all_parts-clause-collects : goal.returns-in-Ok-all_parts-clause-collects
-returns-in-Ok-all_parts-clause-collects g c = λ told.
+pub returns-in-Ok-parts_of-clause-collects : goal.returns-in-Ok-parts_of-clause-collects
+returns-in-Ok-parts_of-clause-collects g c = λ told.
     collected _ _ _ _ c.args.env.now _ c.in-Ok.plan c.in-Ok.ensures (g.T.Tree.state c.args.tree.now).files c.requires.ascend c.in-Ok-read_all.ignores c.as_slice.result.now c.as_slice.ensures (c.in-Ok-read_all.ensures.reads told) c.in-Ok-rows_of.rows c.in-Ok-rows_of.ensures.rows
-    (g.T.Tree.state c.read_all.new.tree).files c.in-Ok-read_all.ensures.looks.files c.deref.result.now c.deref.ensures.value c.as_slice-2.result.now c.as_slice-2.ensures c.in-Ok-gather.gathered (c.in-Ok-gather.ensures.reads told) c.in-Ok-all_parts.parts
-    (made_as _ _ _ _ _ _ _ _ _ _ _ _ _ _ _ _ _ (ap (λ x. x.env) c.globals.ensures.value) c.as_slice-3.ensures c.deref-2.ensures.value c.deref-3.ensures.value c.deref-4.ensures.value c.deref-5.ensures.value c.in-Ok-all_parts.ensures.value) (omega (arith, c.if-gathered-gt-MAX_INPUT_BYTES.false))
+    (g.T.Tree.state c.read_all.new.tree).files c.in-Ok-read_all.ensures.looks.files c.deref.result.now c.deref.ensures.value c.as_slice-2.result.now c.as_slice-2.ensures c.in-Ok-gather.gathered (c.in-Ok-gather.ensures.reads told) c.in-Ok-parts_of.parts
+    (made_as _ _ _ _ _ _ _ _ _ _ _ _ _ _ c.in-Ok.ensures.globals c.deref-2.ensures.value c.in-Ok-parts_of.ensures.value) (omega (arith, c.if-gathered-gt-MAX_INPUT_BYTES.false))
 
-pub returns-in-Ok-all_parts-clause-listed : goal.returns-in-Ok-all_parts-clause-listed
-returns-in-Ok-all_parts-clause-listed g c =
+pub returns-in-Ok-parts_of-clause-listed : goal.returns-in-Ok-parts_of-clause-listed
+returns-in-Ok-parts_of-clause-listed g c =
     some_listing _ _ _ _ c.args.env.now _ c.in-Ok.plan c.in-Ok.ensures c.requires.ascend c.in-Ok-read_all.ignores c.as_slice.result.now c.as_slice.ensures c.in-Ok-read_all.ensures.some c.in-Ok-rows_of.rows c.in-Ok-rows_of.ensures.rows
-    c.deref.result.now c.deref.ensures.value c.as_slice-2.result.now c.as_slice-2.ensures c.in-Ok-gather.gathered c.in-Ok-gather.ensures.some c.in-Ok-all_parts.parts
-    (made_as _ _ _ _ _ _ _ _ _ _ _ _ _ _ _ _ _ (ap (λ x. x.env) c.globals.ensures.value) c.as_slice-3.ensures c.deref-2.ensures.value c.deref-3.ensures.value c.deref-4.ensures.value c.deref-5.ensures.value c.in-Ok-all_parts.ensures.value) (omega (arith, c.if-gathered-gt-MAX_INPUT_BYTES.false))
+    c.deref.result.now c.deref.ensures.value c.as_slice-2.result.now c.as_slice-2.ensures c.in-Ok-gather.gathered c.in-Ok-gather.ensures.some c.in-Ok-parts_of.parts
+    (made_as _ _ _ _ _ _ _ _ _ _ _ _ _ _ c.in-Ok.ensures.globals c.deref-2.ensures.value c.in-Ok-parts_of.ensures.value) (omega (arith, c.if-gathered-gt-MAX_INPUT_BYTES.false))
 
-pub returns-in-Ok-all_parts-clause-ordered : goal.returns-in-Ok-all_parts-clause-ordered
-returns-in-Ok-all_parts-clause-ordered g c =
-    let some = returns-in-Ok-all_parts-clause-listed g c in
-    (c.listing_law.ensures _ _ _ some.0 _ _ _ _ (record { ascend = c.requires.ascend; outside = c.requires.outside; apart = c.requires.apart; ids = c.requires.ids; lower = c.requires.lower; deps = c.requires.deps }) some.1).ordered
+pub returns-in-Ok-parts_of-clause-ordered : goal.returns-in-Ok-parts_of-clause-ordered
+returns-in-Ok-parts_of-clause-ordered g c =
+    let some = returns-in-Ok-parts_of-clause-listed g c in
+    (c.listing_law.ensures _ _ _ some.0 _ _ _ _ (record { ascend = c.requires.ascend; outside = c.requires.outside; apart = c.requires.apart; below_root = c.in-Ok.ensures.proper.below_root; folders = c.in-Ok.ensures.folders; walked = c.requires.walked; ids = c.requires.ids; lower = c.requires.lower; deps = c.requires.deps }) some.1).ordered
 
-pub returns-in-Ok-all_parts-clause-apart : goal.returns-in-Ok-all_parts-clause-apart
-returns-in-Ok-all_parts-clause-apart g c =
-    let some = returns-in-Ok-all_parts-clause-listed g c in
-    (c.listing_law.ensures _ _ _ some.0 _ _ _ _ (record { ascend = c.requires.ascend; outside = c.requires.outside; apart = c.requires.apart; ids = c.requires.ids; lower = c.requires.lower; deps = c.requires.deps }) some.1).apart
+pub returns-in-Ok-parts_of-clause-apart : goal.returns-in-Ok-parts_of-clause-apart
+returns-in-Ok-parts_of-clause-apart g c =
+    let some = returns-in-Ok-parts_of-clause-listed g c in
+    (c.listing_law.ensures _ _ _ some.0 _ _ _ _ (record { ascend = c.requires.ascend; outside = c.requires.outside; apart = c.requires.apart; below_root = c.in-Ok.ensures.proper.below_root; folders = c.in-Ok.ensures.folders; walked = c.requires.walked; ids = c.requires.ids; lower = c.requires.lower; deps = c.requires.deps }) some.1).apart
 
-pub returns-in-Ok-all_parts-clause-inputs : goal.returns-in-Ok-all_parts-clause-inputs
-returns-in-Ok-all_parts-clause-inputs g c = λ told.
-    let listing = (returns-in-Ok-all_parts-clause-collects g c told).0 in
-    (c.listing_law.ensures _ _ _ _ _ _ _ _ (record { ascend = c.requires.ascend; outside = c.requires.outside; apart = c.requires.apart; ids = c.requires.ids; lower = c.requires.lower; deps = c.requires.deps }) listing).inputs
+pub returns-in-Ok-parts_of-clause-inputs : goal.returns-in-Ok-parts_of-clause-inputs
+returns-in-Ok-parts_of-clause-inputs g c = λ told.
+    let listing = (returns-in-Ok-parts_of-clause-collects g c told).0 in
+    (c.listing_law.ensures _ _ _ _ _ _ _ _ (record { ascend = c.requires.ascend; outside = c.requires.outside; apart = c.requires.apart; below_root = c.in-Ok.ensures.proper.below_root; folders = c.in-Ok.ensures.folders; walked = c.requires.walked; ids = c.requires.ids; lower = c.requires.lower; deps = c.requires.deps }) listing).inputs

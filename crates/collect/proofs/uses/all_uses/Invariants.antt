@@ -6,4 +6,4 @@ use Rattle.collect.specs.Steps.{UsesAt}
 use Rattle.collect.proofs.uses.all_uses.Given as goal
 
 abbrev pub invariant-loop-place : goal.invariant-loop-place
-invariant-loop-place l = ArePaired (λ t pairs. UsesAt l.packages (option_map (λ x. view x.now) l.lock) t.«package» pairs) (take l.place l.tasks) l.uses.items
+invariant-loop-place l = ArePaired (λ t pairs. UsesAt l.packages (option_map (λ x. view x.now) l.lock) t.owner pairs) (take l.place l.tasks) l.uses.items

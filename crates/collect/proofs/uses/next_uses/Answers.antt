@@ -10,7 +10,7 @@ use Rattle.collect.proofs.uses.next_uses.Goals as goal
 pub bounds-uses-place : goal.bounds-uses-place
 bounds-uses-place c =
     let e = c.in-Some.ensures in
-    let y = paired_at (λ t pairs. UsesAt c.args.packages.now (option_map (λ l. view l.now) c.args.lock) t.«package» pairs) c.args.before.now c.args.uses.now c.in-Some.place e.0 c.requires.uses e.1 in
+    let y = paired_at (λ t pairs. UsesAt c.args.packages.now (option_map (λ l. view l.now) c.args.lock) t.owner pairs) c.args.before.now c.args.uses.now c.in-Some.place e.0 c.requires.uses e.1 in
     slice_get_within c.args.uses.now c.in-Some.place y.0 y.1
 
 pub returns-in-Ok : goal.returns-in-Ok

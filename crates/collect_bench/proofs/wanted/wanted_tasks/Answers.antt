@@ -19,13 +19,13 @@ loop-number-preserved c =
     elim c.match-branch-2.branch [
       | in-Some+in_ok-push w ↦
           let new = w.in-Some.wanted in
-          let defined : IsDefined c.args.config.now ps new.id = rw w.in-Some.is at c.in_ok-wanted.ensures.defined in
+          let defined : IsDefined c.args.config.now c.args.packages.now new.id = rw w.in-Some.is at c.in_ok-wanted.ensures.defined in
           let named : HoldsAt (λ (p : Package). new.id.«package» ≡ p.name) ps i = rw w.in-Some.is at c.in_ok-wanted.ensures.named in
           let alone : new.deps ≡ [] = rw w.in-Some.is at c.in_ok-wanted.ensures.alone in
           rw (w.all-is, w.in_ok-push.ensures.items) (record {
             proper = inv.proper;
             before = all_push (IsBefore ps (i + 1)) so_far new next (is_before_next ps i new inv.proper.names less named);
-            defined = all_push (λ (t : Wanted). IsDefined c.args.config.now ps t.id) so_far new inv.defined defined;
+            defined = all_push (λ (t : Wanted). IsDefined c.args.config.now c.args.packages.now t.id) so_far new inv.defined defined;
             alone = all_push (λ (t : Wanted). t.deps ≡ []) so_far new inv.alone alone;
             ids = ids_push ps i so_far new less named inv.before inv.ids;
           })

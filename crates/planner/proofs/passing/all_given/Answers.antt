@@ -7,7 +7,7 @@ use Rattle.planner.proofs.passing.all_given.Goals as goal
 pub loop-place-preserved : goal.loop-place-preserved
 loop-place-preserved c =
     let lists = c.loop-place.lists in
-    rw c.in_ok-push.ensures.pushed (record {
+    rw c.in-Ok.ensures.pushed (record {
       count = length_push lists c.in_ok-given_for.field-0 ∙ ap (λ n. n + 1) c.loop-place.invariant.count;
       so_far = given_more c.args.mode c.args.global.now c.args.env.now c.args.defs.now c.args.parts.now c.loop-place.place lists c.loop-place.invariant.count c.loop-place.invariant.so_far c.index-defs-place.result c.index-parts-place.result c.in_ok-given_for.field-0
           c.loop-place-test.true (omega (arith, c.loop-place-test.true, c.requires)) c.index-defs-place.is c.index-parts-place.is c.in_ok-given_for.ensures.value;

@@ -1,13 +1,11 @@
 use Rattle.std.proofs.Common.{◌∙◌, map, length, ap, subst, Ok}
 use Rattle.std.specs.Option.{option_map}
 use Rattle.serde_json.specs.View.{view}
-use Rattle.task_graph.specs.Entries.{entry_tasks}
 use Rattle.collect.specs.declared.wanted.Wanted.{Wanted}
 use Rattle.collect.specs.Refusals.{Collects}
 use Rattle.repository.specs.Reading.{contents_of}
-use Rattle.planner.specs.Plans.{AfterCollect}
+use Rattle.planner.specs.Plans.{AfterCollect, entries_of}
 use Rattle.planner.specs.Steps.{EndsOrFails, NoMore}
-use Rattle.planner.specs.Wanted.{named}
 use Rattle.planner.proofs.Whole.{answers_end, answers_plan}
 use Rattle.planner.proofs.Wanting.{wanted_ids, wanted_length}
 use Rattle.planner.proofs.Valid.{parts_count, is_valid}
@@ -26,7 +24,7 @@ plan_of-requires-clause-same g c =
     let listed = c.in-Ok-listing_of.ensures.listed in
     let is = c.in-Ok.ensures.prepared in
     parts_count r.config r.packages (option_map view r.lock) listed.0 r.walk c.args.env.now c.as_slice-wanted.result.now c.in-Ok-listing_of.listing listed.1
-    ∙ (ap length (c.as_slice-wanted.ensures.value ∙ is.wanted_are) ∙ wanted_length (named (entry_tasks r.packages.packages r.config is.selected c.args.order.now.tasks)) c.args.order.now.args c.in-Ok.prepared.list c.in-Ok.ensures.same)
+    ∙ (ap length (c.as_slice-wanted.ensures.value ∙ is.wanted_are) ∙ wanted_length (entries_of (contents_of r) c.args.order.now is.selected) c.args.order.now.args c.in-Ok.prepared.list c.in-Ok.ensures.same)
 
 pub returns-in-Ok-plan_of-clause-plans : goal.returns-in-Ok-plan_of-clause-plans
 returns-in-Ok-plan_of-clause-plans g c = λ told.
@@ -40,7 +38,7 @@ returns-in-Ok-plan_of-clause-valid g c =
     let r = c.args.repository.now in
     let listed = c.in-Ok-listing_of.ensures.listed in
     let is = c.in-Ok.ensures.prepared in
-    let entries = named (entry_tasks r.packages.packages r.config is.selected c.args.order.now.tasks) in
+    let entries = entries_of (contents_of r) c.args.order.now is.selected in
     let list = c.in-Ok.prepared.list in
     is_valid r.config r.packages (option_map view r.lock) listed.0 r.walk c.args.env.now c.args.order.now list c.as_slice-wanted.result.now c.in-Ok-listing_of.listing c.in-Ok-plan_of.plan
     (ap (map (λ (w : Wanted). w.id)) (c.as_slice-wanted.ensures.value ∙ is.wanted_are) ∙ wanted_ids entries c.args.order.now.args list c.in-Ok.ensures.same)

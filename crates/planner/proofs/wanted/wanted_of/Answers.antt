@@ -10,6 +10,8 @@ loop-place-preserved c =
     ∙ wanted_more c.args.entries.now.keys c.args.args.now c.args.list.now c.requires place c.id-item.result c.index-deps-place.result c.in_ok-wanted_at.field-0 (omega (arith, c.loop-place-test.true, ap (λ xs. length xs) c.as_slice-id-items.ensures))
     (c.id-item.is ∙ ap (λ xs. get_or xs place c.id-item.result) c.as_slice-id-items.ensures) (c.index-deps-place.is ∙ ap (λ xs. get_or xs place c.index-deps-place.result) c.as_slice-deps.ensures) c.in_ok-wanted_at.ensures.value)
 
-pub returns-clause-value : goal.returns-clause-value
-returns-clause-value c =
-    c.loop-place.invariant ∙ wanted_whole c.args.entries.now.keys c.args.args.now c.args.list.now c.requires c.loop-place.place (omega (arith, c.loop-place-test.false, ap (λ xs. length xs) c.as_slice-id-items.ensures))
+pub returns : goal.returns
+returns c = record {
+  value =
+      c.loop-place.invariant ∙ wanted_whole c.args.entries.now.keys c.args.args.now c.args.list.now c.requires c.loop-place.place (omega (arith, c.loop-place-test.false, ap (λ xs. length xs) c.as_slice-id-items.ensures));
+}

@@ -2,4 +2,4 @@ use Rattle.task_graph.proofs.Fronts.{Reaching}
 use Rattle.task_graph.proofs.reached.reached.Given as goal
 
 abbrev pub invariant-loop-turn : goal.invariant-loop-turn
-invariant-loop-turn l = Reaching l.packages.packages l.config l.fn.starts.items l.front.rows.entries l.front.waiting.items
+invariant-loop-turn l = Reaching l.packages l.config l.fn.starts l.front.rows.entries l.front.waiting.items

@@ -1,7 +1,8 @@
 use Rattle.std.proofs.Common.{take}
+use Rattle.workspaces.specs.Space.{owners}
 use Rattle.task_inputs.specs.Rooted.{AreTasks}
 use Rattle.task_inputs.proofs.from_root.all_tasks.Given as goal
 
--- the tasks of the packages so far
-abbrev pub invariant-loop-package : goal.invariant-loop-package
-invariant-loop-package l = AreTasks l.config l.packages.packages (take l.package-index l.kept) l.names l.tasks.items
+-- the tasks of the owners so far
+abbrev pub invariant-loop-owner : goal.invariant-loop-owner
+invariant-loop-owner l = AreTasks l.config (owners l.packages) (take l.owner-index l.kept) l.names l.tasks.items

@@ -6,4 +6,4 @@ use Rattle.task_inputs.proofs.from_root.any_far.Given as goal
 
 -- none so far
 abbrev pub invariant-loop-task : goal.invariant-loop-task
-invariant-loop-task l = list_any (λ (t : TaskGlobs). far_by t l.path) (drop l.task-index l.tasks) ≡ list_any (λ (t : TaskGlobs). far_by t l.path) l.tasks
+invariant-loop-task l = list_any (λ (t : TaskGlobs). far_by l.home t l.path) (drop l.task-index l.tasks) ≡ list_any (λ (t : TaskGlobs). far_by l.home t l.path) l.tasks

@@ -9,7 +9,8 @@ use Rattle.plan_laws.specs.Laws.{AsksFor}
 use Rattle.turbo_app.specs.Answers.{HasCauseIn, counts_of}
 use Rattle.turbo_app.specs.Asking.{IsRefusedRun}
 use Rattle.turbo_app.specs.Outcomes.{Moment}
-use Rattle.turbo_app.specs.Steps.{is_failed, raised, AsksAs}
+use Rattle.refusals.specs.Stops.{is_failed}
+use Rattle.turbo_app.specs.Steps.{raised, AsksAs}
 use Rattle.turbo_app.specs.Stops.{StopsPlan, StoppedRun}
 use Rattle.turbo_app.proofs.Printed.{if_fault, early_as}
 use Rattle.turbo_app.proofs.top.run_built.Goals as goal

@@ -2,7 +2,8 @@
 use Rattle.std.proofs.Common.{sym, subst}
 use Rattle.rel_path.specs.Causes.{Counts}
 use Rattle.turbo_app.specs.Answers.{HasCauseIn, counts_of}
-use Rattle.turbo_app.specs.Steps.{is_failed, raised}
+use Rattle.refusals.specs.Stops.{is_failed}
+use Rattle.turbo_app.specs.Steps.{raised}
 use Rattle.turbo_app.proofs.top.unplanned.Goals as goal
 
 pub returns-in-Refused-clause-cause : goal.returns-in-Refused-clause-cause

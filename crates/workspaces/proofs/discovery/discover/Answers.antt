@@ -6,6 +6,7 @@ use Rattle.workspaces.specs.Space.{Space, folders_in}
 use Rattle.workspaces.specs.Entries.{globs_of}
 use Rattle.workspaces.proofs.Order.{sorted-ascending}
 use Rattle.workspaces.proofs.Apart.{all_below_root}
+use Rattle.workspaces.proofs.Walked.{all_walked, found_walked}
 use Rattle.workspaces.proofs.Discovering.{bad_globs, bad_read, bad_check, whole, maps_ascend, all_found}
 use Rattle.workspaces.proofs.discovery.discover.Goals as goal
 
@@ -59,3 +60,11 @@ returns-clause-found g c =
     λ told. all_found _ space c.new.result
     (whole files c.args.walk.now c.args.root c.as_slice-2.result.now c.in_ok-globs.ensures.found.0 are c.in-Ok.packages.items (c.in-Ok.ensures.found told) p.found.0 ∙ ap (λ ps. Ok (record { root = c.args.root; packages = ps })) (sym p.found.1))
     c.new.ensures.value c.new.ensures.memory
+
+pub returns-clause-walked : goal.returns-clause-walked
+returns-clause-walked g c =
+    let are : c.as_slice-2.result.now ≡ folders_in (globs_of c.args.root) c.args.walk.now = c.as_slice-2.ensures.value ∙ (c.in_ok-folders.ensures.value ∙ (ap (λ gs. folders_in gs c.as_slice.result.now) c.in_ok-globs.ensures.found.1 ∙ ap (λ w. folders_in (globs_of c.args.root) w) c.as_slice.ensures)) in
+    let p = c.in_ok-packages.ensures in
+    let space : Space = record { root = c.args.root; packages = c.in_ok-packages.packages.items } in
+    found_walked c.args.walk.now space c.new.result c.new.ensures.value
+    (rw p.found.1 (all_walked (globs_of c.args.root) c.args.walk.now c.as_slice-2.result.now c.in-Ok.packages.items are c.in-Ok.ensures.own))

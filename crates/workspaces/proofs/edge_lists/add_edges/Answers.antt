@@ -1,6 +1,5 @@
 use Rattle.std.proofs.Common.{◌≡◌, ◌∙◌, ◌+◌, ◌++◌, ◌∷◌, [], take, get_or, sym, ap, subst}
 use Rattle.std.specs.Prelude.{MatchOption}
-use Rattle.std.specs.Option.{option_copied}
 use Rattle.std.proofs.lemmas.List.{take_more}
 use Rattle.workspaces.specs.Edges.{edge_from}
 use Rattle.workspaces.specs.Steps.{IsNoName, IsNamedAt}
@@ -12,7 +11,7 @@ pub loop-pair-preserved : goal.loop-pair-preserved
 loop-pair-preserved c =
     let pairs = c.as_slice-pair-items.result.now in
     let packages = c.args.packages.now in
-    let own = option_copied c.args.own in
+    let own = c.args.own.now in
     let m = c.args.manifest.now in
     let p = c.pair-item.result in
     let done = take c.loop-pair.pair-index pairs in

@@ -67,11 +67,11 @@ loop-place-2-preserved c =
       reaching = wait_more edges from from at _ _ _ _ before adds;
     }
 
-pub returns-clause-reached : goal.returns-clause-reached
-returns-clause-reached c =
+pub returns : goal.returns
+returns c =
     let edges = c.args.edges.now in
     let from = c.args.from.now in
     let marks = c.loop-place-2.front.reached.items in
     let empty : c.loop-place-2.front.waiting.items ≡ [] = nil_from_length _ (grind (arith, common_steps, c.in_default.ensures.cases)) in
     let end : Reaching (leads_in edges) from from marks [] = subst (λ w. Reaching (leads_in edges) from from marks w) empty c.loop-place-2.invariant.reaching in
-    IfOk-weaker c.marked.result _ _ (λ found is. subst (λ f. IsReached (leads_in edges) from f) (sym (is ∙ ap (λ ms. places itself ms) c.as_slice-2.ensures.value)) (all_reached (leads_in edges) from marks end)) c.marked.ensures.value
+    record { reached = IfOk-weaker c.marked.result _ _ (λ found is. subst (λ f. IsReached (leads_in edges) from f) (sym (is ∙ ap (λ ms. places itself ms) c.as_slice-2.ensures.value)) (all_reached (leads_in edges) from marks end)) c.marked.ensures.value }

@@ -1,4 +1,4 @@
-use Rattle.std.proofs.Common.{◌≡◌, ◌∙◌, sym, ap, refl, get_or}
+use Rattle.std.proofs.Common.{◌≡◌, ◌∙◌, sym, ap, get_or}
 use Rattle.std.specs.List.{list_any}
 use Rattle.globs.specs.Outputs.{declares}
 use Rattle.std.proofs.lemmas.Option.{get_or_from_slice_get}
@@ -17,4 +17,4 @@ returns-in-Some c =
     let r = c.index-homes-number.result in
     let here : r ≡ home.0 = c.index-homes-number.is ∙ ap (λ hs. get_or hs n r) c.homes.ensures ∙ get_or_from_slice_get homes n home.0 r home.1 in
     c.declares.ensures ∙ ap (λ (h : Home). list_any (λ t. declares t.outputs h.folder path) h.tasks) here
-    ∙ sym (declared_alone path homes n home.0 c.in-Some.ensures.apart home.1 home.2 (λ (h : Home). list_any (λ t. declares t.outputs h.folder path) h.tasks) (λ h. refl))
+    ∙ sym (declared_alone path homes n c.in-Some.ensures.homes home)

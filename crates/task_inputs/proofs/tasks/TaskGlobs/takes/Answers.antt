@@ -9,5 +9,4 @@ returns-then-not-file-clause-value c = rw (← c.if-is_file_in.ensures, ← c.if
 pub returns-else-asks-clause-value : goal.returns-else-asks-clause-value
 unfolding takes_by
 returns-else-asks-clause-value c =
-    let asked = c.in_ok-asks.ensures.value in let default = c.is_default.ensures in
-    rw (← c.if-is_file_in.ensures, ← c.if-is_file_in-2.ensures, c.if-not-file.false, ← default, ← asked, c.if-asks.false) refl
+    rw (← c.if-is_file_in.ensures, ← c.if-is_file_in-2.ensures, c.if-not-file.false, ← c.in_ok-asks.ensures.value, c.if-asks.false) refl

@@ -13,11 +13,13 @@ reached-requires-clause-rows c =
     let rows : c.as_slice.result.now ≡ map (edges_of packages) packages = c.as_slice.ensures.value ∙ c.self.invariant.edges in
     rw rows (edges_below packages)
 
-pub returns-clause-reached : goal.returns-clause-reached
-returns-clause-reached c =
+pub returns : goal.returns
+returns c =
     let packages = c.self.inside.packages.items in
     let rows : c.as_slice.result.now ≡ map (edges_of packages) packages = c.as_slice.ensures.value ∙ c.self.invariant.edges in
-    subst (λ (s : Space). IfOk c.reached.result (IsReached (leads s.packages) c.args.set.now)) c.self.view_is
-    (IfOk-weaker c.reached.result (IsReached (leads_in c.as_slice.result.now) c.as_slice-2.result.now) (IsReached (leads packages) c.args.set.now)
-    (λ found is. reached_same (leads_in c.as_slice.result.now) (leads packages) c.args.set.now found (λ p q. ap (λ r. leads_in r p q) rows ∙ edges_lead packages p q) (subst (λ from. IsReached (leads_in c.as_slice.result.now) from found) c.as_slice-2.ensures is))
-    c.reached.ensures.reached)
+    record {
+      reached = subst (λ (s : Space). IfOk c.reached.result (IsReached (leads s.packages) c.args.set.now)) c.self.view_is
+          (IfOk-weaker c.reached.result (IsReached (leads_in c.as_slice.result.now) c.as_slice-2.result.now) (IsReached (leads packages) c.args.set.now)
+          (λ found is. reached_same (leads_in c.as_slice.result.now) (leads packages) c.args.set.now found (λ p q. ap (λ r. leads_in r p q) rows ∙ edges_lead packages p q) (subst (λ from. IsReached (leads_in c.as_slice.result.now) from found) c.as_slice-2.ensures is))
+          c.reached.ensures.reached);
+    }

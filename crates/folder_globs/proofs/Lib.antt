@@ -1,0 +1,6 @@
+mod Characters
+mod Names
+mod Tokens
+mod Reading
+mod Matching
+mod Lists
