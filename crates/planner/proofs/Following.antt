@@ -23,7 +23,7 @@ use Rattle.repository.specs.Reading.{Contents}
 use Rattle.refusals.specs.declared.stop.Stop.{Stop}
 use Rattle.refusals.specs.declared.stop.Stop.TheVariants.{Refused, Failed, OutOfMemory}
 use Rattle.planner.specs.Plans.{Answer, AfterFilters, AfterFiltersOf, AfterGraph, AfterGraphOf, AfterOrder, AfterPersistent, AfterCollect, AfterCollectOf}
-use Rattle.planner.specs.Steps.{Ends, EndsOrFails, NoMore, Before}
+use Rattle.planner.specs.Steps.{Ends, NoMore, Before}
 use Rattle.planner.specs.Wanted.{asks_all}
 
 -- ---- what the one says the other says
@@ -32,11 +32,6 @@ pub ends_more : (P Q : Answer → Type 0) → ((answer : Answer) → P answer �
 ends_more P Q more (Refused reason) says = more (Err reason) says
 ends_more P Q more Failed says = absurd says
 ends_more P Q more OutOfMemory says = tt
-
-pub fails_more : (P Q : Answer → Type 0) → ((answer : Answer) → P answer → Q answer) → (e : Stop) → EndsOrFails P e → EndsOrFails Q e
-fails_more P Q more (Refused reason) says = more (Err reason) says
-fails_more P Q more Failed says = tt
-fails_more P Q more OutOfMemory says = tt
 
 -- ---- step by step
 
@@ -124,10 +119,3 @@ module _ (contents : Contents) (order : RunOrder) (next : List ℕ → PlanList 
 
         pub after_all : find (is_persistent contents.space contents.setup) (ids_of nodes) ≡ None → (answer : Answer) → next selected list answer → Before contents order next answer
         after_all ends answer later = after_order answer (persistent_next (find (is_persistent contents.space contents.setup) (ids_of nodes)) (next selected list) ends answer later)
-
-pub before_more : (contents : Contents) (order : RunOrder) (next : List ℕ → PlanList → Answer → Type 0) (answer : Answer) → Before contents order (λ selected. NoMore) answer → Before contents order next answer
-before_more contents order next =
-    filters_through contents.space.packages order.filters (AtGraph contents order (λ selected. NoMore)) (AtGraph contents order next) (λ selected.
-    graph_through contents.space contents.setup selected (asks_all order.filters) order.tasks (AtOrder contents order (λ s. NoMore) selected) (AtOrder contents order next selected) (λ nodes.
-    order_through nodes (AtPersistent contents order (λ s. NoMore) selected nodes) (AtPersistent contents order next selected nodes) (λ list.
-    persistent_through (find (is_persistent contents.space contents.setup) (ids_of nodes)) (λ a. ⊥) (next selected list) (λ a never. absurd never))))

@@ -12,9 +12,9 @@ use Rattle.refusals.specs.declared.stop.Stop.TheVariants.{Refused, Failed, OutOf
 use Rattle.planner.specs.declared.preparing.Prepared.{Prepared}
 use Rattle.planner.specs.Answers.{Answers}
 use Rattle.planner.specs.Plans.{Answer, entries_of, AfterCollect, IsPlanOf}
-use Rattle.planner.specs.Steps.{Ends, EndsOrFails, NoMore, Before, IsPrepared}
+use Rattle.planner.specs.Steps.{EndsOrFails, NoMore, Before, IsPrepared}
 use Rattle.planner.specs.Wanted.{wanted_of}
-use Rattle.planner.proofs.Following.{before_more, after_all, collect_more}
+use Rattle.planner.proofs.Following.{after_all, collect_more}
 
 module _ (contents : Contents) (order : RunOrder) (env : List (List ℕ × List ℕ)) (files : FileMap) where
   -- what comes behind the steps before a file is read
@@ -23,11 +23,6 @@ module _ (contents : Contents) (order : RunOrder) (env : List (List ℕ × List 
 
   abbrev At : List ℕ → PlanList → Answer → Type 0
   At selected list answer = AfterCollect contents files env (wanted_of (entries_of contents order selected) order.args list) (Rest list) answer
-
-  pub answers_before : (e : Stop) → Ends (Before contents order (λ selected. NoMore)) e → Answers contents order env files (Err e)
-  answers_before (Refused reason) says = before_more contents order At (Err reason) says
-  answers_before Failed says = absurd says
-  answers_before OutOfMemory says = tt
 
   module _ (p : Prepared) (is : IsPrepared contents order p) where
     through : (answer : Answer) → AfterCollect contents files env p.wanted.items (Rest p.list) answer → Before contents order At answer

@@ -1,7 +1,7 @@
 -- The plan of a run, by the words of the command line, the environment and the repository (Turborepo docs, "run", "Filtering packages" and "Package and
 -- Task Graphs"). What is tried comes in this order: filters, the tasks that are named, what these depend on, cycles, tasks that do not end, and what
 -- collecting the listing answers.
-use Rattle.std.specs.Prelude.{◌≡◌, ◌⊎◌, ℕ, Bool, List, [], Option, Some, None, Result, Ok, Err, find, length, slice_get}
+use Rattle.std.specs.Prelude.{◌≡◌, ◌⊎◌, ℕ, Bool, List, Option, Some, None, Result, Ok, Err, find, length, slice_get}
 use Rattle.std.specs.Option.{option_map}
 use Rattle.rel_path.specs.Files.{FileMap}
 use Rattle.env_select.specs.Choice.{IsChosen, is_given}

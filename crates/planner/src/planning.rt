@@ -72,10 +72,10 @@ fn plan_of(
     })
 }
 
-/// The plan of a run: the tasks that the words name in the packages that the filters select, and with each task what it
-/// depends on, in plan order, with their definitions, the listing of what their results depend on, and the variables that
-/// are passed on beside those that count. Words behind `--` go to the tasks that are named alone. The input files are
-/// read here, each once.
+/// The plan of a run: the tasks that the words name in the packages that the filters select and, where no filter stands,
+/// in the root; with each task what it depends on; in plan order, with their definitions, the listing of what their
+/// results depend on, and the variables that are passed on beside those that count. Words behind `--` go to the tasks that
+/// are named alone. The input files are read here, each once.
 ///
 /// `Refused` comes for the first reason why there is no plan: a filter that does not read or names no package, by the
 /// order of the filters; a word that names no task, a text of `dependsOn` that stands for none, a cycle, a task that does

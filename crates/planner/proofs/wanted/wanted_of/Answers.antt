@@ -12,6 +12,5 @@ loop-place-preserved c =
 
 pub returns : goal.returns
 returns c = record {
-  value =
-      c.loop-place.invariant ∙ wanted_whole c.args.entries.now.keys c.args.args.now c.args.list.now c.requires c.loop-place.place (omega (arith, c.loop-place-test.false, ap (λ xs. length xs) c.as_slice-id-items.ensures));
+  value = c.loop-place.invariant ∙ wanted_whole c.args.entries.now.keys c.args.args.now c.args.list.now c.requires c.loop-place.place (omega (arith, c.loop-place-test.false, ap (λ xs. length xs) c.as_slice-id-items.ensures));
 }
