@@ -1,16 +1,20 @@
 //! How fast a log is appended to and opened, over memory and over a file, and what it writes for what it is given.
 //!
-//! Words: `memory` or `file PATH`, the count of pairs, and the bytes of each value; without words it says these.
+//! Words: `memory` or `file PATH`, the count of pairs, and the bytes of each value; `batch PATH`, for frames one by one
+//! and at once; `opening PATH`, for a log of many frames; without words it says these. A file of the last two is
+//! written anew.
 #![tactic(auto)]
 
 ghost use Rattle.std.specs.Prelude.{◌≡◌, ◌+◌, ◌<◌, ◌^◌, IsTrue, OnOk, length};
 ghost use Rattle.record_log.specs.Log.{is_whole, count_of};
 
+mod batches;
 mod file_store;
 
 use anyhow::{Result, bail};
+use batches::{bench_batch, bench_opening};
 use file_store::FileStore;
-use record_log::{Log, LogErr};
+use record_log::{Log, LogErr, PAIR};
 use rel_path::Bytes;
 use std::alloc::Global;
 use std::env;
@@ -29,9 +33,10 @@ fn fill<S: StoreDevice>(
 ) -> Result<(), LogErr>
     requires whole { IsTrue (is_whole log.old) }
     requires value { length value.now < 2 ^ 32 }
+    ensures whole { OnOk result (IsTrue (is_whole log.new)) }
 {
     for _ in 0..count {
-        let _number = log.append(alloc, 1, &KEY, value)?;
+        let _number = log.append(alloc, PAIR, &KEY, value)?;
     }
     Ok(())
 }
@@ -102,6 +107,17 @@ fn bench_file(rt: &HostRuntime, path: &str, count: &str, len: &str) -> Result<()
     Ok(())
 }
 
+/// A new file in the place of any that is there.
+fn fresh_store(rt: &HostRuntime, path: &str) -> Result<FileStore> {
+    let file = OpenOptions::new()
+        .read(true)
+        .write(true)
+        .create(true)
+        .truncate(true)
+        .open(rt, path)?;
+    Ok(FileStore::new(file))
+}
+
 fn main(rt: HostRuntime) -> Result<()> {
     let words: Vec<String> = env::args(&rt)?.skip(1).collect(rt.alloc())?;
     match words.as_slice() {
@@ -111,8 +127,16 @@ fn main(rt: HostRuntime) -> Result<()> {
         [kind, path, count, len] if kind.as_str() == "file" => {
             bench_file(&rt, path.as_str(), count.as_str(), len.as_str())
         }
+        [kind, path] if kind.as_str() == "batch" => {
+            bench_batch(&rt, fresh_store(&rt, path.as_str())?)
+        }
+        [kind, path] if kind.as_str() == "opening" => {
+            bench_opening(&rt, fresh_store(&rt, path.as_str())?)
+        }
         _ => {
-            println!(rt; "log_bench: memory COUNT BYTES, or file PATH COUNT BYTES")?;
+            println!(rt;
+                "log_bench: memory COUNT BYTES, file PATH COUNT BYTES, batch PATH or opening PATH"
+            )?;
             Ok(())
         }
     }

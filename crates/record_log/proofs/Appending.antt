@@ -10,10 +10,11 @@ use Rattle.record_log.specs.Kinds.{Entry, limit_of, has_form, form, blobs_in, bl
 use Rattle.record_log.specs.Seats.{seat_of, seats_from}
 use Rattle.record_log.specs.Frames.{Fault, opened, reading, frames_of, AtRest}
 use Rattle.record_log.specs.Kept.{Kept, IsIndexOf}
-use Rattle.record_log.proofs.Wide.{length-text}
+use Rattle.record_log.specs.Texts.{length-text}
 use Rattle.record_log.proofs.Rest.{at_rest_read, opened_push}
 
-pub frames_of_is : (bytes : List ℕ) (fs : List Entry) → reading bytes ≡ Ok fs → frames_of bytes ≡ fs
+pub frames_of_is : (bytes : List ℕ) (fs : List Entry) → reading bytes ≡ Ok fs
+    → frames_of bytes ≡ fs
 unfolding frames_of
 frames_of_is bytes fs is = rw (is, frames_of) refl
 
@@ -21,11 +22,13 @@ pub frames_of_err : (bytes : List ℕ) (f : Fault) → reading bytes ≡ Err f �
 unfolding frames_of
 frames_of_err bytes f is = rw (is, frames_of) refl
 
-pub formed : (fs : List Entry) (e : Entry) → form (blobs fs) e ≡ true → length e.key < limit_of e.kind → length e.value < limit_of e.kind → has_form fs e ≡ true
+pub formed : (fs : List Entry) (e : Entry) → form (blobs fs) e ≡ true
+    → length e.key < limit_of e.kind → length e.value < limit_of e.kind → has_form fs e ≡ true
 unfolding has_form
 formed fs e is short_key short_value = and_from _ _ is (and_from _ _ (lt-ltb _ _ short_key) (lt-ltb _ _ short_value))
 
-pub seats_push : (fs : List Entry) (gate : ℕ) (e : Entry) → seats_from gate (fs ++ e ∷ []) ≡ seats_from gate fs ++ seat_of (gate + length (opened fs) + 1) e ∷ []
+pub seats_push : (fs : List Entry) (gate : ℕ) (e : Entry)
+    → seats_from gate (fs ++ e ∷ []) ≡ seats_from gate fs ++ seat_of (gate + length (opened fs) + 1) e ∷ []
 seats_push [] gate e = ap (λ (k : ℕ). seat_of k e ∷ []) (omega arith)
 seats_push (f ∷ fs) gate e = ap (λ (l : List Seat). seat_of (gate + 1) f ∷ l) (seats_push fs (gate + 1 + size f) e ∙ ap (λ (k : ℕ). seats_from (gate + 1 + size f) fs ++ seat_of k e ∷ []) (omega (arith, length-append (text f) (opened fs), length-text f)))
 
@@ -34,7 +37,8 @@ length-seats_from [] gate = refl
 length-seats_from (f ∷ fs) gate = omega (arith, length-seats_from fs (gate + 1 + size f))
 
 -- the frames of kind 2, one by one
-blobs_in_push : (fs : List Entry) (e : Entry) → length (blobs_in (fs ++ e ∷ [])) ≡ (if e.kind == CONTENT then length (blobs_in fs) + 1 else length (blobs_in fs))
+blobs_in_push : (fs : List Entry) (e : Entry)
+    → length (blobs_in (fs ++ e ∷ [])) ≡ (if e.kind == CONTENT then length (blobs_in fs) + 1 else length (blobs_in fs))
 blobs_in_push [] e = elim (e.kind == CONTENT) as (λ (b : Bool). length (cond b (e ∷ []) []) ≡ cond b (0 + 1) 0) [ true ↦ refl | false ↦ refl ]
 blobs_in_push (f ∷ fs) e =
     let more = blobs_in_push fs e in
@@ -47,7 +51,8 @@ blobs_in_push (f ∷ fs) e =
     one_more true n = omega arith
     one_more false n = refl
 
-pub blobs_push : (fs : List Entry) (e : Entry) → blobs (fs ++ e ∷ []) ≡ (if e.kind == CONTENT then blobs fs + 1 else blobs fs)
+pub blobs_push : (fs : List Entry) (e : Entry)
+    → blobs (fs ++ e ∷ []) ≡ (if e.kind == CONTENT then blobs fs + 1 else blobs fs)
 unfolding blobs
 blobs_push fs e = blobs_in_push fs e
 
@@ -63,27 +68,35 @@ pub blobs_few : (fs : List Entry) → blobs fs ≤ length (opened fs)
 unfolding blobs
 blobs_few fs = blobs_in_few fs
 
-counted : (b : Bool) (n m : ℕ) → n ≡ m → m < 2 ^ 64 - 1 → cond b (min (n + 1) (2 ^ 64 - 1)) n ≡ cond b (m + 1) m
+counted : (b : Bool) (n m : ℕ) → n ≡ m → m < 2 ^ 64 - 1
+    → cond b (min (n + 1) (2 ^ 64 - 1)) n ≡ cond b (m + 1) m
 counted true n m is few = omega (arith, is, few)
 counted false n m is few = is
 
-generation_push : (last : ℕ) (fs : List Entry) (e : Entry) → generation_from last (fs ++ e ∷ []) ≡ generation_after (generation_from last fs) e
+generation_push : (last : ℕ) (fs : List Entry) (e : Entry)
+    → generation_from last (fs ++ e ∷ []) ≡ generation_after (generation_from last fs) e
 generation_push last [] e = refl
 generation_push last (f ∷ fs) e = generation_push (generation_after last f) fs e
 
-pub generation_of_push : (fs : List Entry) (e : Entry) → generation_of (fs ++ e ∷ []) ≡ generation_after (generation_of fs) e
+pub generation_of_push : (fs : List Entry) (e : Entry)
+    → generation_of (fs ++ e ∷ []) ≡ generation_after (generation_of fs) e
 unfolding generation_of
 generation_of_push fs e = generation_push 0 fs e
 
-pub length-opened_push : (fs : List Entry) (e : Entry) → length (opened (fs ++ e ∷ [])) ≡ length (opened fs) + (1 + size e)
+pub length-opened_push : (fs : List Entry) (e : Entry)
+    → length (opened (fs ++ e ∷ [])) ≡ length (opened fs) + (1 + size e)
 length-opened_push fs e = omega (arith, length-append (opened (fs ++ e ∷ [])) [], ap length (opened_push fs e []), length-append (opened fs) (1 ∷ (text e ++ [])), length-append (text e) [], length-text e)
 
 -- what is known of frames, of none of them and of one more
-pub index_none : (mark : LogMark) → mark.seats.items ≡ [] → mark.end ≡ GATE → mark.contents ≡ 0 → mark.generation ≡ 0 → IsIndexOf mark []
+pub index_none : (mark : LogMark) → mark.seats.items ≡ [] → mark.end ≡ GATE → mark.contents ≡ 0
+    → mark.generation ≡ 0 → IsIndexOf mark []
 unfolding blobs generation_of
 index_none mark seats end contents generation = record { seats = seats; end = end ∙ omega arith; contents = contents; generation = generation }
 
-pub index_push : (mark next : LogMark) (fs : List Entry) (e : Entry) → IsIndexOf mark fs → next.seats.items ≡ mark.seats.items ++ seat_of (mark.end + 1) e ∷ [] → next.end ≡ mark.end + (1 + size e) → next.contents ≡ contents_after mark.contents e.kind → next.generation ≡ generation_after mark.generation e → IsIndexOf next (fs ++ e ∷ [])
+pub index_push : (mark next : LogMark) (fs : List Entry) (e : Entry) → IsIndexOf mark fs
+    → next.seats.items ≡ mark.seats.items ++ seat_of (mark.end + 1) e ∷ []
+    → next.end ≡ mark.end + (1 + size e) → next.contents ≡ contents_after mark.contents e.kind
+    → next.generation ≡ generation_after mark.generation e → IsIndexOf next (fs ++ e ∷ [])
 index_push mark next fs e x seats end contents generation = record {
   seats = seats ∙ (λ i. x.seats i ++ seat_of (x.end i + 1) e ∷ []) ∙ sym (seats_push fs GATE e);
   end = omega (arith, end, x.end, length-opened_push fs e);
@@ -92,7 +105,9 @@ index_push mark next fs e x seats end contents generation = record {
 }
 
 -- a mark of the same parts says the same
-pub index_same : (mark next : LogMark) (fs : List Entry) → IsIndexOf mark fs → next.seats.items ≡ mark.seats.items → next.end ≡ mark.end → next.contents ≡ mark.contents → next.generation ≡ mark.generation → IsIndexOf next fs
+pub index_same : (mark next : LogMark) (fs : List Entry) → IsIndexOf mark fs
+    → next.seats.items ≡ mark.seats.items → next.end ≡ mark.end → next.contents ≡ mark.contents
+    → next.generation ≡ mark.generation → IsIndexOf next fs
 index_same mark next fs x seats end contents generation = record { seats = seats ∙ x.seats; end = end ∙ x.end; contents = contents ∙ x.contents; generation = generation ∙ x.generation }
 
 -- or behind none

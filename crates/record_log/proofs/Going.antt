@@ -14,10 +14,13 @@ use Rattle.record_log.proofs.Walk.{walk_opened, walk_damaged}
 use Rattle.record_log.proofs.Rest.{magic_read, formed_push, opened_push}
 use Rattle.record_log.proofs.Appending.{index_push}
 
-pub stop : {bytes : List ℕ} {fs : List Entry} {mark : LogMark} → IsIndex bytes fs mark → mark.end < length bytes → get_or bytes mark.end 0 ≢ 1 → AtRest bytes fs mark.end
+pub stop : {bytes : List ℕ} {fs : List Entry} {mark : LogMark} → IsIndex bytes fs mark
+    → mark.end < length bytes → get_or bytes mark.end 0 ≢ 1 → AtRest bytes fs mark.end
 stop x inside shut = record { split = x.split; place = x.index.end; inside = inside; closed = shut; formed = x.formed }
 
-pub broken : (bytes : List ℕ) (fs : List Entry) (mark : LogMark) → 9 < length bytes → mark.end < length bytes → IsIndex bytes fs mark → get_or bytes mark.end 0 ≡ 1 → frame_at fs (drop (mark.end + 1) bytes) ≡ None → reading bytes ≡ Err (Damaged (mark.end + 1))
+pub broken : (bytes : List ℕ) (fs : List Entry) (mark : LogMark) → 9 < length bytes
+    → mark.end < length bytes → IsIndex bytes fs mark → get_or bytes mark.end 0 ≡ 1
+    → frame_at fs (drop (mark.end + 1) bytes) ≡ None → reading bytes ≡ Err (Damaged (mark.end + 1))
 broken bytes fs mark long inside x is_open none =
     magic_read bytes (opened fs ++ drop mark.end bytes) long x.split
     ∙ walk_opened fs [] 8 (drop mark.end bytes) x.formed (omega (arith, length-drop mark.end bytes, inside))
@@ -27,7 +30,9 @@ broken bytes fs mark long inside x is_open none =
     front : drop mark.end bytes ≡ 1 ∷ drop (mark.end + 1) bytes
     front = drop_more bytes mark.end 0 inside ∙ ap (λ (g : ℕ). g ∷ drop (mark.end + 1) bytes) is_open
 
-pub step : (bytes : List ℕ) (fs : List Entry) (mark next : LogMark) (e : Entry) → AreBytes bytes → mark.end < length bytes → IsIndex bytes fs mark → get_or bytes mark.end 0 ≡ 1 → frame_at fs (drop (mark.end + 1) bytes) ≡ Some e
+pub step : (bytes : List ℕ) (fs : List Entry) (mark next : LogMark) (e : Entry) → AreBytes bytes
+    → mark.end < length bytes → IsIndex bytes fs mark → get_or bytes mark.end 0 ≡ 1
+    → frame_at fs (drop (mark.end + 1) bytes) ≡ Some e
     → next.seats.items ≡ mark.seats.items ++ seat_of (mark.end + 1) e ∷ [] → next.end ≡ mark.end + (1 + size e) → next.contents ≡ contents_after mark.contents e.kind → next.generation ≡ generation_after mark.generation e → IsIndex bytes (fs ++ e ∷ []) next
 step bytes fs mark next e fits inside x is_open found seats end contents generation = record {
   split = x.split ∙ ap (λ (l : List ℕ). magic ++ (opened fs ++ l)) front ∙ ap (λ (l : List ℕ). magic ++ l) (sym (opened_push fs e (drop next.end bytes)));

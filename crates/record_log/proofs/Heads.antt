@@ -3,7 +3,7 @@ use Rattle.std.proofs.Common.{◌≡◌, inl, inr, ℕ, ◌+◌, ◌^◌, ◌≤
 use Rattle.std.specs.Prelude.{◌&&◌, ◌≢◌, ◌==◌, min, IfNone}
 use Rattle.std.specs.Int.{Width, w32, w64, byte_len, from_le_bytes, to_le_bytes}
 use Rattle.std.proofs.lemmas.Bool.{cases_lt, le-ltb, lt-ltb, and_parts, and_from, and_left, and_right, eqb-true, ne_eqb}
-use Rattle.std.proofs.lemmas.List.{length-take, drop-drop, drop-take, take-take, take_at, drop_at, take-append-le, drop-append-le}
+use Rattle.std.proofs.lemmas.List.{length-take, drop-drop, drop-take, take-take, take_at, drop_at}
 use Rattle.codes.specs.Codes.{took}
 use Rattle.codes.specs.Reading.{some_same}
 use Rattle.record_log.specs.Pieces.{read_number}
@@ -11,14 +11,16 @@ use Rattle.record_log.specs.declared.kind.TheConstants.{GENERATION}
 use Rattle.record_log.specs.Kinds.{Entry, generation_after, is_long, width_of, limit_of, head_of, lens_fit, value_fits, has_form, form, blobs, text, size, key_len, value_len, body, entry_in, told, frame_at}
 use Rattle.record_log.specs.declared.seat.Seat.{Seat}
 use Rattle.record_log.specs.Seats.{seat_of, key_span, value_span, IsSeatOf, IsLaid}
-use Rattle.record_log.proofs.Wide.{wide_if, frame_some, frame_short, frame_bad, length-text}
+use Rattle.record_log.specs.Texts.{length-text}
+use Rattle.record_log.proofs.Wide.{wide_if, frame_some, frame_short, frame_bad}
 
 -- a head by the width of its lengths
 head_wide : (b : Bool) → cond b 17 9 ≡ 1 + (byte_len (cond b w64 w32) + byte_len (cond b w64 w32))
 head_wide true = refl
 head_wide false = refl
 
-pub head_width : (kind : ℕ) → head_of kind ≡ 1 + (byte_len (width_of kind) + byte_len (width_of kind))
+pub head_width : (kind : ℕ)
+    → head_of kind ≡ 1 + (byte_len (width_of kind) + byte_len (width_of kind))
 head_width kind = head_wide (is_long kind)
 
 pub size_head : (e : Entry) → size e ≡ head_of e.kind + (length e.key + length e.value)
@@ -31,7 +33,8 @@ pub record NumberAt (w : Width) (bytes : List ℕ) (n : ℕ) (rest : List ℕ) :
   pub is : n ≡ from_le_bytes w (take (byte_len w) bytes)
   pub behind : rest ≡ drop (byte_len w) bytes
 
-pub number_was : (w : Width) (bytes : List ℕ) (n : ℕ) (rest : List ℕ) → read_number w bytes ≡ Some (n, rest) → NumberAt w bytes n rest
+pub number_was : (w : Width) (bytes : List ℕ) (n : ℕ) (rest : List ℕ)
+    → read_number w bytes ≡ Some (n, rest) → NumberAt w bytes n rest
 unfolding read_number
 number_was w bytes n rest e = elim (cases_lt (length bytes) (byte_len w)) [
   | inl short ↦ let none = ap (λ (b : Bool). cond b None (took (from_le_bytes w (take (byte_len w) bytes)) (drop (byte_len w) bytes))) (lt-ltb _ _ short) in absurd (cc (none, e))
@@ -41,7 +44,8 @@ number_was w bytes n rest e = elim (cases_lt (length bytes) (byte_len w)) [
       record { long = long; is = sym same.0; behind = sym same.1 }
 ]
 
-pub number_short : (w : Width) (bytes : List ℕ) → read_number w bytes ≡ None → length bytes < byte_len w
+pub number_short : (w : Width) (bytes : List ℕ) → read_number w bytes ≡ None
+    → length bytes < byte_len w
 unfolding read_number
 number_short w bytes e = elim (cases_lt (length bytes) (byte_len w)) [
   | inl short ↦ short
@@ -69,12 +73,16 @@ tail_at : List ℕ → List ℕ
 tail_at [] = []
 tail_at (x ∷ xs) = xs
 
-follows : (kind : ℕ) (shown bytes : List ℕ) → kind ∷ shown ≡ take (length (kind ∷ shown)) bytes → Follows bytes kind shown
+follows : (kind : ℕ) (shown bytes : List ℕ) → kind ∷ shown ≡ take (length (kind ∷ shown)) bytes
+    → Follows bytes kind shown
 unfolding head_at tail_at
 follows kind shown [] e = absurd (cc (e))
 follows kind shown (b ∷ bytes) e = record { tail = bytes; is = λ i. ap head_at (sym e) i ∷ bytes; front = ap tail_at e }
 
-pub head_of_front : (bytes : List ℕ) (kind k v : ℕ) (shown behind rest : List ℕ) → kind ∷ shown ≡ take (length (kind ∷ shown)) bytes → read_number (width_of kind) shown ≡ Some (k, behind) → read_number (width_of kind) behind ≡ Some (v, rest) → HeadOf bytes kind k v
+pub head_of_front : (bytes : List ℕ) (kind k v : ℕ) (shown behind rest : List ℕ)
+    → kind ∷ shown ≡ take (length (kind ∷ shown)) bytes
+    → read_number (width_of kind) shown ≡ Some (k, behind)
+    → read_number (width_of kind) behind ≡ Some (v, rest) → HeadOf bytes kind k v
 head_of_front bytes kind k v shown behind rest front first second =
     let w = width_of kind in
     let n = byte_len w in
@@ -90,43 +98,57 @@ head_of_front bytes kind k v shown behind rest front first second =
     record { tail = f.tail; is = f.is; key = a.is ∙ ap (from_le_bytes w) key; value = b.is ∙ ap (from_le_bytes w) value }
 
 -- where no frame stands: the bytes end within the head
-pub none_empty : (before : List Entry) (bytes : List ℕ) → length bytes ≡ 0 → frame_at before bytes ≡ None
+pub none_empty : (before : List Entry) (bytes : List ℕ) → length bytes ≡ 0
+    → frame_at before bytes ≡ None
 unfolding frame_at
 none_empty before [] none = refl
 none_empty before (x ∷ bytes) none = absurd (omega (arith, none))
 
-short_tail : (before : List Entry) (bytes : List ℕ) (kind : ℕ) (tail : List ℕ) → bytes ≡ kind ∷ tail → length tail < byte_len (width_of kind) + byte_len (width_of kind) + 1 → frame_at before bytes ≡ None
+short_tail : (before : List Entry) (bytes : List ℕ) (kind : ℕ) (tail : List ℕ)
+    → bytes ≡ kind ∷ tail → length tail < byte_len (width_of kind) + byte_len (width_of kind) + 1
+    → frame_at before bytes ≡ None
 unfolding frame_at
 short_tail before bytes kind tail is short =
     let w = width_of kind in
     ap (frame_at before) is ∙ frame_short w before kind tail (omega (arith, short, length-drop (byte_len w) (drop (byte_len w) tail), length-drop (byte_len w) tail))
 
-pub none_cut : (before : List Entry) (bytes : List ℕ) (kind : ℕ) (shown : List ℕ) → kind ∷ shown ≡ take (length (kind ∷ shown)) bytes → min 17 (length bytes) ≤ length (kind ∷ shown) → length shown < byte_len (width_of kind) + byte_len (width_of kind) → frame_at before bytes ≡ None
+pub none_cut : (before : List Entry) (bytes : List ℕ) (kind : ℕ) (shown : List ℕ)
+    → kind ∷ shown ≡ take (length (kind ∷ shown)) bytes
+    → min 17 (length bytes) ≤ length (kind ∷ shown)
+    → length shown < byte_len (width_of kind) + byte_len (width_of kind)
+    → frame_at before bytes ≡ None
 none_cut before bytes kind shown front long short =
     let f = follows kind shown bytes front in
     let n : byte_len (width_of kind) ≤ 8 = (wide_if (is_long kind)).few in
     short_tail before bytes kind f.tail f.is (omega (arith, n, short, long, ap length f.is))
 
 -- they end before the lengths do
-pub none_room : (before : List Entry) (bytes : List ℕ) (kind k v : ℕ) → HeadOf bytes kind k v → length bytes ≤ head_of kind + (k + v) → frame_at before bytes ≡ None
+pub none_room : (before : List Entry) (bytes : List ℕ) (kind k v : ℕ) → HeadOf bytes kind k v
+    → length bytes ≤ head_of kind + (k + v) → frame_at before bytes ≡ None
 unfolding frame_at
 none_room before bytes kind k v h small =
     let w = width_of kind in
     ap (frame_at before) h.is ∙ frame_short w before kind h.tail (omega (arith, small, head_width kind, h.key, h.value, ap length h.is, length-drop (byte_len w) (drop (byte_len w) h.tail), length-drop (byte_len w) h.tail))
 
 -- the lengths of what is told of, where it is whole
-told_key : (w : Width) (kind : ℕ) (tail : List ℕ) → 1 + (key_len w tail + value_len w tail) ≤ length (body w tail) → length (entry_in w kind tail).key ≡ key_len w tail
+told_key : (w : Width) (kind : ℕ) (tail : List ℕ)
+    → 1 + (key_len w tail + value_len w tail) ≤ length (body w tail)
+    → length (entry_in w kind tail).key ≡ key_len w tail
 told_key w kind tail long = omega (arith, length-take (key_len w tail) (body w tail), long)
 
-told_value : (w : Width) (kind : ℕ) (tail : List ℕ) → 1 + (key_len w tail + value_len w tail) ≤ length (body w tail) → length (entry_in w kind tail).value ≡ value_len w tail
+told_value : (w : Width) (kind : ℕ) (tail : List ℕ)
+    → 1 + (key_len w tail + value_len w tail) ≤ length (body w tail)
+    → length (entry_in w kind tail).value ≡ value_len w tail
 told_value w kind tail long = omega (arith, length-take (value_len w tail) (drop (key_len w tail) (body w tail)), length-drop (key_len w tail) (body w tail), long)
 
-lens_bad : (before : List Entry) (e : Entry) → lens_fit e.kind (length e.key) (length e.value) ≡ false → has_form before e ≡ false
+lens_bad : (before : List Entry) (e : Entry)
+    → lens_fit e.kind (length e.key) (length e.value) ≡ false → has_form before e ≡ false
 unfolding has_form form
 lens_bad before e bad = and_left _ _ (and_left _ _ bad)
 
 -- or no frame of that kind has such lengths
-pub none_lens : (before : List Entry) (bytes : List ℕ) (kind k v : ℕ) → HeadOf bytes kind k v → lens_fit kind k v ≡ false → frame_at before bytes ≡ None
+pub none_lens : (before : List Entry) (bytes : List ℕ) (kind k v : ℕ) → HeadOf bytes kind k v
+    → lens_fit kind k v ≡ false → frame_at before bytes ≡ None
 unfolding frame_at
 none_lens before bytes kind k v h bad =
     let w = width_of kind in
@@ -180,46 +202,63 @@ laid bytes at room kind k v len h fits lens k_short v_short = record {
     value_at = ap (drop (key_len w h.tail)) key_at ∙ drop-drop (key_len w h.tail) (at + head_of kind) bytes ∙ ap (λ (m : ℕ). drop (at + head_of kind + m) bytes) (sym (key_is ∙ h.key))
 
 -- the frame that is told of counts or not by its value alone
-seat_lens : (seat : Seat) (e : Entry) → seat ≡ seat_of seat.at e → lens_fit seat.kind seat.key_len seat.value_len ≡ true → lens_fit e.kind (length e.key) (length e.value) ≡ true
+seat_lens : (seat : Seat) (e : Entry) → seat ≡ seat_of seat.at e
+    → lens_fit seat.kind seat.key_len seat.value_len ≡ true
+    → lens_fit e.kind (length e.key) (length e.value) ≡ true
 seat_lens seat e is fits = ap (λ (s : Seat). lens_fit s.kind s.key_len s.value_len) (sym is) ∙ fits
 
-key_short : (seat : Seat) (e : Entry) → seat ≡ seat_of seat.at e → seat.key_len < limit_of seat.kind → length e.key < limit_of e.kind
+key_short : (seat : Seat) (e : Entry) → seat ≡ seat_of seat.at e
+    → seat.key_len < limit_of seat.kind → length e.key < limit_of e.kind
 key_short seat e is short = subst (λ (s : Seat). s.key_len < limit_of s.kind) is short
 
-value_short : (seat : Seat) (e : Entry) → seat ≡ seat_of seat.at e → seat.value_len < limit_of seat.kind → length e.value < limit_of e.kind
+value_short : (seat : Seat) (e : Entry) → seat ≡ seat_of seat.at e
+    → seat.value_len < limit_of seat.kind → length e.value < limit_of e.kind
 value_short seat e is short = subst (λ (s : Seat). s.value_len < limit_of s.kind) is short
 
-form_true : (before : List Entry) (e : Entry) → lens_fit e.kind (length e.key) (length e.value) ≡ true → value_fits (blobs before) e.kind e.value ≡ true → length e.key < limit_of e.kind → length e.value < limit_of e.kind → has_form before e ≡ true
+form_true : (before : List Entry) (e : Entry)
+    → lens_fit e.kind (length e.key) (length e.value) ≡ true
+    → value_fits (blobs before) e.kind e.value ≡ true → length e.key < limit_of e.kind
+    → length e.value < limit_of e.kind → has_form before e ≡ true
 unfolding has_form form
 form_true before e lens value k v = and_from _ _ (and_from _ _ lens value) (and_from _ _ (lt-ltb _ _ k) (lt-ltb _ _ v))
 
-form_false : (before : List Entry) (e : Entry) → value_fits (blobs before) e.kind e.value ≡ false → has_form before e ≡ false
+form_false : (before : List Entry) (e : Entry) → value_fits (blobs before) e.kind e.value ≡ false
+    → has_form before e ≡ false
 unfolding has_form form
 form_false before e bad = and_left _ _ (and_right _ _ bad)
 
-whole_told : (kind : ℕ) (tail : List ℕ) → head_of kind + (length (entry_in (width_of kind) kind tail).key + length (entry_in (width_of kind) kind tail).value) < length (kind ∷ tail) → 1 + (key_len (width_of kind) tail + value_len (width_of kind) tail) ≤ length (body (width_of kind) tail)
+whole_told : (kind : ℕ) (tail : List ℕ)
+    → head_of kind + (length (entry_in (width_of kind) kind tail).key + length (entry_in (width_of kind) kind tail).value) < length (kind ∷ tail)
+    → 1 + (key_len (width_of kind) tail + value_len (width_of kind) tail) ≤ length (body (width_of kind) tail)
 whole_told kind tail room =
     let w = width_of kind in
     let n = byte_len w in
     omega (arith, room, head_width kind, length-take (key_len w tail) (body w tail), length-take (value_len w tail) (drop (key_len w tail) (body w tail)), length-drop (key_len w tail) (body w tail), length-drop n (drop n tail), length-drop n tail)
 
-found_in : (before : List Entry) (bytes : List ℕ) → head_of (told bytes).kind + (length (told bytes).key + length (told bytes).value) < length bytes → has_form before (told bytes) ≡ true → frame_at before bytes ≡ Some (told bytes)
+found_in : (before : List Entry) (bytes : List ℕ)
+    → head_of (told bytes).kind + (length (told bytes).key + length (told bytes).value) < length bytes
+    → has_form before (told bytes) ≡ true → frame_at before bytes ≡ Some (told bytes)
 unfolding frame_at
 found_in before [] room h = absurd (omega (arith, room))
 found_in before (kind ∷ tail) room h = frame_some (width_of kind) before kind tail (whole_told kind tail room) h
 
-bad_in : (before : List Entry) (bytes : List ℕ) → has_form before (told bytes) ≡ false → frame_at before bytes ≡ None
+bad_in : (before : List Entry) (bytes : List ℕ) → has_form before (told bytes) ≡ false
+    → frame_at before bytes ≡ None
 unfolding frame_at
 bad_in before [] h = refl
 bad_in before (kind ∷ tail) h = frame_bad (width_of kind) before kind tail h
 
-pub laid_found : (bytes : List ℕ) (before : List Entry) (seat : Seat) → IsLaid bytes seat → value_fits (blobs before) (told (drop seat.at bytes)).kind (told (drop seat.at bytes)).value ≡ true → frame_at before (drop seat.at bytes) ≡ Some (told (drop seat.at bytes))
+pub laid_found : (bytes : List ℕ) (before : List Entry) (seat : Seat) → IsLaid bytes seat
+    → value_fits (blobs before) (told (drop seat.at bytes)).kind (told (drop seat.at bytes)).value ≡ true
+    → frame_at before (drop seat.at bytes) ≡ Some (told (drop seat.at bytes))
 laid_found bytes before seat x fits =
     let e = told (drop seat.at bytes) in
     let is = x.stands.is in
     found_in before (drop seat.at bytes) (omega (arith, x.stands.room, length-drop seat.at bytes)) (form_true before e (seat_lens seat e is x.lens) fits (key_short seat e is x.key) (value_short seat e is x.value))
 
-pub laid_none : (bytes : List ℕ) (before : List Entry) (seat : Seat) → value_fits (blobs before) (told (drop seat.at bytes)).kind (told (drop seat.at bytes)).value ≡ false → frame_at before (drop seat.at bytes) ≡ None
+pub laid_none : (bytes : List ℕ) (before : List Entry) (seat : Seat)
+    → value_fits (blobs before) (told (drop seat.at bytes)).kind (told (drop seat.at bytes)).value ≡ false
+    → frame_at before (drop seat.at bytes) ≡ None
 laid_none bytes before seat bad = bad_in before (drop seat.at bytes) (form_false before (told (drop seat.at bytes)) bad)
 
 -- the text of a frame: its head, its key and its value
@@ -232,12 +271,14 @@ length-head_text e =
     let wide = wide_if (is_long e.kind) in
     omega (arith, head_width e.kind, wide.len (length e.key), wide.len (length e.value), length-append (to_le_bytes (width_of e.kind) (length e.key)) (to_le_bytes (width_of e.kind) (length e.value)))
 
-text_head : (e : Entry) (more : List ℕ) → text e ++ more ≡ head_text e ++ (e.key ++ (e.value ++ more))
+text_head : (e : Entry) (more : List ℕ)
+    → text e ++ more ≡ head_text e ++ (e.key ++ (e.value ++ more))
 unfolding text head_text
 text_head e more = simp append_assoc
 
 -- what a frame of kind 5 tells
-pub generation_len : (contents : ℕ) (e : Entry) → e.kind ≡ GENERATION → form contents e ≡ true → length e.key ≡ 8
+pub generation_len : (contents : ℕ) (e : Entry) → e.kind ≡ GENERATION → form contents e ≡ true
+    → length e.key ≡ 8
 unfolding form
 generation_len contents e is h =
     let p = and_parts _ _ h in
@@ -249,27 +290,35 @@ lens_of_5 kind k v is h =
     let q : ((k == 8) && (v == 0)) ≡ true = sym (ap (λ (j : ℕ). lens_fit j k v) is) ∙ h in
     eqb-true _ _ (and_parts _ _ q).0
 
-pub generation_is : (last : ℕ) (e : Entry) → e.kind ≡ GENERATION → generation_after last e ≡ from_le_bytes w64 e.key
+pub generation_is : (last : ℕ) (e : Entry) → e.kind ≡ GENERATION
+    → generation_after last e ≡ from_le_bytes w64 e.key
 generation_is last e is = ap (λ (k : ℕ). cond (k == 5) (from_le_bytes w64 e.key) last) is
 
-pub generation_other : (last : ℕ) (e : Entry) → e.kind ≢ GENERATION → generation_after last e ≡ last
+pub generation_other : (last : ℕ) (e : Entry) → e.kind ≢ GENERATION
+    → generation_after last e ≡ last
 generation_other last e other = ap (λ (b : Bool). cond b (from_le_bytes w64 e.key) last) (ne_eqb e.kind 5 other)
 
 -- where its parts stand, as far as told bytes go no sum is too large
-pub key_at : (bytes : List ℕ) (seat : Seat) (e : Entry) → IsSeatOf bytes seat e → length bytes < 2 ^ 63 → (key_span seat).at ≡ seat.at + head_of e.kind
+pub key_at : (bytes : List ℕ) (seat : Seat) (e : Entry) → IsSeatOf bytes seat e
+    → length bytes < 2 ^ 63 → (key_span seat).at ≡ seat.at + head_of e.kind
 key_at bytes seat e x few = omega (arith, x.room, few, ap (λ (s : Seat). head_of s.kind) x.is)
 
-pub value_at : (bytes : List ℕ) (seat : Seat) (e : Entry) → IsSeatOf bytes seat e → length bytes < 2 ^ 63 → (value_span seat).at ≡ seat.at + head_of e.kind + length e.key
+pub value_at : (bytes : List ℕ) (seat : Seat) (e : Entry) → IsSeatOf bytes seat e
+    → length bytes < 2 ^ 63 → (value_span seat).at ≡ seat.at + head_of e.kind + length e.key
 value_at bytes seat e x few = omega (arith, x.room, few, ap (λ (s : Seat). head_of s.kind) x.is, ap (λ (s : Seat). s.key_len) x.is)
 
-pub key_shown : (bytes : List ℕ) (seat : Seat) (e : Entry) → IsSeatOf bytes seat e → length bytes < 2 ^ 63 → take seat.key_len (drop (key_span seat).at bytes) ≡ e.key
+pub key_shown : (bytes : List ℕ) (seat : Seat) (e : Entry) → IsSeatOf bytes seat e
+    → length bytes < 2 ^ 63 → take seat.key_len (drop (key_span seat).at bytes) ≡ e.key
 key_shown bytes seat e x few = (λ i. take (x.is i).key_len (drop (key_at bytes seat e x few i) bytes)) ∙ x.key
 
-pub value_shown : (bytes : List ℕ) (seat : Seat) (e : Entry) → IsSeatOf bytes seat e → length bytes < 2 ^ 63 → take seat.value_len (drop (value_span seat).at bytes) ≡ e.value
+pub value_shown : (bytes : List ℕ) (seat : Seat) (e : Entry) → IsSeatOf bytes seat e
+    → length bytes < 2 ^ 63 → take seat.value_len (drop (value_span seat).at bytes) ≡ e.value
 value_shown bytes seat e x few = (λ i. take (x.is i).value_len (drop (value_at bytes seat e x few i) bytes)) ∙ x.value
 
 -- a frame that stands in bytes has its seat there
-pub seat_there : (bytes front more : List ℕ) (at : ℕ) (e : Entry) → bytes ≡ front ++ (text e ++ more) → length front ≡ at → 1 ≤ length more → IsSeatOf bytes (seat_of at e) e
+pub seat_there : (bytes front more : List ℕ) (at : ℕ) (e : Entry)
+    → bytes ≡ front ++ (text e ++ more) → length front ≡ at → 1 ≤ length more
+    → IsSeatOf bytes (seat_of at e) e
 seat_there bytes front more at e is place some = record {
   is = refl;
   key = ap (take (length e.key)) key_at ∙ take_at e.key (e.value ++ more) (length e.key) refl;
@@ -286,14 +335,8 @@ seat_there bytes front more at e is place some = record {
     value_at : drop (at + head_of e.kind + length e.key) bytes ≡ e.value ++ more
     value_at = sym (drop-drop (length e.key) (at + head_of e.kind) bytes) ∙ ap (drop (length e.key)) key_at ∙ drop_at e.key (e.value ++ more) (length e.key) refl
 
--- what stands within the front of bytes
-pub shown_front : (bytes front rest : List ℕ) (at n : ℕ) → bytes ≡ front ++ rest → at + n ≤ length front → take n (drop at bytes) ≡ take n (drop at front)
-shown_front bytes front rest at n is inside =
-    ap (λ (l : List ℕ). take n (drop at l)) is
-    ∙ ap (take n) (drop-append-le at front rest (omega (arith, inside)))
-    ∙ take-append-le n (drop at front) rest (omega (arith, inside, length-drop at front))
-
 -- what a call says where it found nothing
-pub from_none : {T : Type 0} (o : Option T) (P : Type 0) → IfNone o P → ((x : T) → o ≡ Some x → ⊥) → P
+pub from_none : {T : Type 0} (o : Option T) (P : Type 0) → IfNone o P → ((x : T) → o ≡ Some x → ⊥)
+    → P
 from_none None P p none = p
 from_none (Some x) P p none = absurd (none x refl)

@@ -14,20 +14,22 @@ use Rattle.record_log.specs.Seats.{seats_from, key_span, value_span, IsSeatOf, I
 use Rattle.record_log.specs.Frames.{Fault, walk, opened, all_formed, magic, reading, frames_of, text_of, IsAt}
 use Rattle.record_log.specs.Batch.{IsBeforeOrAll}
 use Rattle.record_log.specs.Kept.{Kept, Front, IsIndex, IsIndexOf, IsMarkOf}
-use Rattle.record_log.proofs.Wide.{length-text, IsTaken, taken}
-use Rattle.record_log.proofs.Heads.{seat_there, shown_front, key_at, value_at, key_shown, value_shown}
+use Rattle.record_log.specs.Texts.{length-text, shown_front, opened_append}
+use Rattle.record_log.proofs.Wide.{IsTaken, taken}
+use Rattle.record_log.proofs.Heads.{seat_there, key_at, value_at, key_shown, value_shown}
 use Rattle.record_log.proofs.Walk.{walk_found, walk_closed, walk_damaged}
 use Rattle.record_log.proofs.Rest.{short_read, magic_read}
 use Rattle.record_log.proofs.Appending.{frames_of_is, frames_of_err, index_none, length-seats_from}
 use Rattle.record_log.proofs.Opening.{no_magic, magic_front}
-use Rattle.record_log.proofs.Batch.{opened_append}
 
 -- a frame has its seat in the bytes, behind the first gate
 pub record Seated (bytes : List ℕ) (gate : ℕ) (seat : Seat) (e : Entry) : Type 0 where
   pub stands : IsSeatOf bytes seat e
   pub behind : gate < seat.at
 
-seats_at : (es : List Entry) (gate n : ℕ) (front rest : List ℕ) (d : Seat) (f : Entry) → length front ≡ gate → 1 ≤ length rest → n < length es → Seated (front ++ (opened es ++ rest)) gate (get_or (seats_from gate es) n d) (get_or es n f)
+seats_at : (es : List Entry) (gate n : ℕ) (front rest : List ℕ) (d : Seat) (f : Entry)
+    → length front ≡ gate → 1 ≤ length rest → n < length es
+    → Seated (front ++ (opened es ++ rest)) gate (get_or (seats_from gate es) n d) (get_or es n f)
 seats_at [] gate n front rest d f at more lt = absurd (omega arith)
 seats_at (e ∷ es) gate zero front rest d f at more lt =
     let is : front ++ (opened (e ∷ es) ++ rest) ≡ (front ++ 1 ∷ []) ++ (text e ++ (opened es ++ rest)) = ap (λ (l : List ℕ). front ++ (1 ∷ l)) (append_assoc (text e) (opened es) rest) ∙ sym (append_assoc front (1 ∷ []) (text e ++ (opened es ++ rest))) in
@@ -54,7 +56,9 @@ pub record Walked (before es : List Entry) (rest : List ℕ) (found : List Entry
 walked_none : (before es : List Entry) (rest : List ℕ) → es ≡ before → Walked before es rest []
 walked_none before es rest is = record { all = is ∙ sym (append-nil before); split = refl; formed = refl; more = λ some. some }
 
-walked_one : (before es : List Entry) (gate : ℕ) (rest : List ℕ) (e : Entry) (found : List Entry) → gate ≡ 1 → IsTaken before rest e → Walked (before ++ e ∷ []) es (drop (size e) rest) found → Walked before es (gate ∷ rest) (e ∷ found)
+walked_one : (before es : List Entry) (gate : ℕ) (rest : List ℕ) (e : Entry) (found : List Entry)
+    → gate ≡ 1 → IsTaken before rest e → Walked (before ++ e ∷ []) es (drop (size e) rest) found
+    → Walked before es (gate ∷ rest) (e ∷ found)
 walked_one before es gate rest e found one t w = record {
   all = w.all ∙ append_assoc before (e ∷ []) found;
   split = (λ i. one i ∷ (t.is ∙ ap (λ (l : List ℕ). text e ++ l) (w.split ∙ ap (λ (l : List ℕ). opened found ++ l) behind) ∙ sym (append_assoc (text e) (opened found) _)) i);
@@ -65,7 +69,9 @@ walked_one before es gate rest e found one t w = record {
     behind : drop (length (opened found)) (drop (size e) rest) ≡ drop (length (text e ++ opened found)) rest
     behind = drop-drop (length (opened found)) (size e) rest ∙ ap (λ (n : ℕ). drop n rest) (omega (arith, length-append (text e) (opened found), length-text e))
 
-walk_was : (bytes : List ℕ) (skip at : ℕ) (before es : List Entry) → AreBytes bytes → walk before at skip bytes ≡ Ok es → (found : List Entry) × Walked before es (drop skip bytes) found
+walk_was : (bytes : List ℕ) (skip at : ℕ) (before es : List Entry) → AreBytes bytes
+    → walk before at skip bytes ≡ Ok es
+    → (found : List Entry) × Walked before es (drop skip bytes) found
 walk_was [] zero at before es fits e = ([], walked_none before es [] cc)
 walk_was [] (suc skip) at before es fits e = ([], walked_none before es [] cc)
 walk_was (x ∷ rest) (suc skip) at before es fits e = walk_was rest skip (at + 1) before es (λ i. fits (suc i)) e
@@ -87,7 +93,8 @@ pub record Read (bytes : List ℕ) (es : List Entry) : Type 0 where
   pub formed : all_formed [] es ≡ true
   pub more : length (opened es) < length (drop 8 bytes)
 
-pub read_was : (bytes : List ℕ) (es : List Entry) → AreBytes bytes → 9 < length bytes → reading bytes ≡ Ok es → Read bytes es
+pub read_was : (bytes : List ℕ) (es : List Entry) → AreBytes bytes → 9 < length bytes
+    → reading bytes ≡ Ok es → Read bytes es
 read_was bytes es fits long is = elim (cases_Bool (bytes_eq (take 8 bytes) magic)) [
   | inr bad ↦ let none = no_magic bytes long bad in absurd (cc (none, is))
   | inl good ↦
@@ -102,7 +109,8 @@ read_was bytes es fits long is = elim (cases_Bool (bytes_eq (take 8 bytes) magic
       })
 ]
 
-seats_take : (es : List Entry) (gate m n : ℕ) (d : Seat) → n < m → get_or (seats_from gate (take m es)) n d ≡ get_or (seats_from gate es) n d
+seats_take : (es : List Entry) (gate m n : ℕ) (d : Seat) → n < m
+    → get_or (seats_from gate (take m es)) n d ≡ get_or (seats_from gate es) n d
 seats_take [] gate zero n d lt = refl
 seats_take [] gate (suc m) n d lt = refl
 seats_take (e ∷ es) gate zero n d lt = absurd (omega arith)
@@ -115,7 +123,8 @@ pub record Told (bytes : List ℕ) (es : List Entry) : Type 0 where
   pub is : bytes ≡ text_of es ++ rest
   pub more : 1 ≤ length rest
 
-pub told_text : (bytes : List ℕ) (mark : LogMark) → AreBytes bytes → Front bytes mark → 0 < length (frames_of bytes) → Told bytes (frames_of bytes)
+pub told_text : (bytes : List ℕ) (mark : LogMark) → AreBytes bytes → Front bytes mark
+    → 0 < length (frames_of bytes) → Told bytes (frames_of bytes)
 told_text bytes mark fits f some = elim (cases_lt 9 (length bytes)) [
   | inl long ↦
       let es = frames_of bytes in
@@ -129,7 +138,9 @@ told_text bytes mark fits f some = elim (cases_lt 9 (length bytes)) [
 ]
 
 -- each frame that is known has its seat
-pub front_seat : (bytes : List ℕ) (mark : LogMark) (n : ℕ) (d : Seat) (e : Entry) → AreBytes bytes → Front bytes mark → n < length mark.seats.items → Seated bytes GATE (get_or mark.seats.items n d) (get_or (frames_of bytes) n e)
+pub front_seat : (bytes : List ℕ) (mark : LogMark) (n : ℕ) (d : Seat) (e : Entry) → AreBytes bytes
+    → Front bytes mark → n < length mark.seats.items
+    → Seated bytes GATE (get_or mark.seats.items n d) (get_or (frames_of bytes) n e)
 front_seat bytes mark n d e fits f lt =
     let es = frames_of bytes in
     let t = told_text bytes mark fits f (omega (arith, lt, f.few)) in
@@ -138,7 +149,8 @@ front_seat bytes mark n d e fits f lt =
     subst (λ (s : Seat). Seated bytes GATE s (get_or es n e)) (sym at) (subst (λ (l : List ℕ). Seated l GATE (get_or (seats_from GATE es) n d) (get_or es n e)) (sym t.is) there)
 
 -- what a whole log knows
-pub kept_front : {bytes : List ℕ} {images : List ℕ → Type 0} {mark : LogMark} → Kept bytes images mark → Front bytes mark
+pub kept_front : {bytes : List ℕ} {images : List ℕ → Type 0} {mark : LogMark}
+    → Kept bytes images mark → Front bytes mark
 kept_front {bytes} {images} {mark} kept =
     let count : length mark.seats.items ≡ length (frames_of bytes) = ap length kept.index.seats ∙ length-seats_from (frames_of bytes) GATE in
     record {
@@ -148,7 +160,8 @@ kept_front {bytes} {images} {mark} kept =
     }
 
 -- the first of its frames are known
-pub front_of : (bytes : List ℕ) (mark : LogMark) (es more : List Entry) → IsIndexOf mark es → reading bytes ≡ Ok (es ++ more) → Front bytes mark
+pub front_of : (bytes : List ℕ) (mark : LogMark) (es more : List Entry) → IsIndexOf mark es
+    → reading bytes ≡ Ok (es ++ more) → Front bytes mark
 front_of bytes mark es more index is =
     let same : frames_of bytes ≡ es ++ more = frames_of_is bytes (es ++ more) is in
     let count : length mark.seats.items ≡ length es = ap length index.seats ∙ length-seats_from es GATE in
@@ -158,24 +171,30 @@ front_of bytes mark es more index is =
       index = subst (λ (l : List Entry). IsIndexOf mark l) (sym (take_at es more (length mark.seats.items) (sym count)) ∙ ap (take (length mark.seats.items)) (sym same)) index;
     }
 
-pub failed_front_all : (bytes : List ℕ) (mark : LogMark) (es all : List Entry) → IsIndexOf mark es → IsBeforeOrAll es all bytes → Front bytes mark
+pub failed_front_all : (bytes : List ℕ) (mark : LogMark) (es all : List Entry) → IsIndexOf mark es
+    → IsBeforeOrAll es all bytes → Front bytes mark
 failed_front_all bytes mark es all index (inl is) = front_of bytes mark es [] index (is ∙ ap (λ (l : List Entry). Ok l) (sym (append-nil es)))
 failed_front_all bytes mark es all index (inr is) = front_of bytes mark es all index is
 
 -- it has its seat in the text of the frames too
-text_seat : (bytes : List ℕ) (mark : LogMark) (n : ℕ) (d : Seat) (e : Entry) → Front bytes mark → n < length mark.seats.items → IsAt (frames_of bytes) n e → Seated (text_of (frames_of bytes) ++ 0 ∷ []) GATE (get_or mark.seats.items n d) e
+text_seat : (bytes : List ℕ) (mark : LogMark) (n : ℕ) (d : Seat) (e : Entry) → Front bytes mark
+    → n < length mark.seats.items → IsAt (frames_of bytes) n e
+    → Seated (text_of (frames_of bytes) ++ 0 ∷ []) GATE (get_or mark.seats.items n d) e
 text_seat bytes mark n d e f lt at =
     let es = frames_of bytes in
     let same : get_or mark.seats.items n d ≡ get_or (seats_from GATE es) n d = ap (λ (l : List Seat). get_or l n d) f.index.seats ∙ seats_take es GATE (length mark.seats.items) n d lt in
     subst (λ (x : Entry). Seated (text_of es ++ 0 ∷ []) GATE (get_or mark.seats.items n d) x) (sym at.1) (subst (λ (s : Seat). Seated (text_of es ++ 0 ∷ []) GATE s (get_or es n e)) (sym same) (seats_at es GATE n magic (0 ∷ []) d e refl (omega arith) at.0))
 
 -- which is shorter than the bytes
-text_few : (bytes : List ℕ) (mark : LogMark) (n : ℕ) (e : Entry) → AreBytes bytes → length bytes < 2 ^ 63 → Front bytes mark → IsAt (frames_of bytes) n e → length (text_of (frames_of bytes) ++ 0 ∷ []) < 2 ^ 63
+text_few : (bytes : List ℕ) (mark : LogMark) (n : ℕ) (e : Entry) → AreBytes bytes
+    → length bytes < 2 ^ 63 → Front bytes mark → IsAt (frames_of bytes) n e
+    → length (text_of (frames_of bytes) ++ 0 ∷ []) < 2 ^ 63
 text_few bytes mark n e fits few f at =
     let t = told_text bytes mark fits f (omega (arith, at.0)) in
     omega (arith, few, ap length t.is, t.more, length-append (text_of (frames_of bytes)) t.rest, length-append (text_of (frames_of bytes)) (0 ∷ []))
 
-span_of_key : (text : List ℕ) (seat : Seat) (e : Entry) → Seated (text ++ 0 ∷ []) GATE seat e → length (text ++ 0 ∷ []) < 2 ^ 63 → IsSpanOf text (key_span seat) e.key
+span_of_key : (text : List ℕ) (seat : Seat) (e : Entry) → Seated (text ++ 0 ∷ []) GATE seat e
+    → length (text ++ 0 ∷ []) < 2 ^ 63 → IsSpanOf text (key_span seat) e.key
 span_of_key text seat e x few =
     let at = key_at (text ++ 0 ∷ []) seat e x.stands few in
     let len : seat.key_len ≡ length e.key = ap (λ (s : Seat). s.key_len) x.stands.is in
@@ -186,7 +205,8 @@ span_of_key text seat e x few =
       shows = sym (shown_front (text ++ 0 ∷ []) text (0 ∷ []) (key_span seat).at seat.key_len refl inside) ∙ key_shown (text ++ 0 ∷ []) seat e x.stands few;
     }
 
-span_of_value : (text : List ℕ) (seat : Seat) (e : Entry) → Seated (text ++ 0 ∷ []) GATE seat e → length (text ++ 0 ∷ []) < 2 ^ 63 → IsSpanOf text (value_span seat) e.value
+span_of_value : (text : List ℕ) (seat : Seat) (e : Entry) → Seated (text ++ 0 ∷ []) GATE seat e
+    → length (text ++ 0 ∷ []) < 2 ^ 63 → IsSpanOf text (value_span seat) e.value
 span_of_value text seat e x few =
     let at = value_at (text ++ 0 ∷ []) seat e x.stands few in
     let len : seat.value_len ≡ length e.value = ap (λ (s : Seat). s.value_len) x.stands.is in
@@ -212,7 +232,9 @@ module _ (bytes : List ℕ) (mark : LogMark) (n : ℕ) (seat : Seat) (e : Entry)
   value_told = span_of_value (text_of (frames_of bytes)) seat e seated (text_few bytes mark n e fits few f at)
 
 -- and where a known frame has its seat in the bytes
-pub seat_known : (bytes : List ℕ) (mark : LogMark) (n : ℕ) (seat : Seat) (e : Entry) → AreBytes bytes → Front bytes mark → n < length mark.seats.items → seat ≡ get_or mark.seats.items n seat → IsSeatOf bytes seat (get_or (frames_of bytes) n e)
+pub seat_known : (bytes : List ℕ) (mark : LogMark) (n : ℕ) (seat : Seat) (e : Entry)
+    → AreBytes bytes → Front bytes mark → n < length mark.seats.items
+    → seat ≡ get_or mark.seats.items n seat → IsSeatOf bytes seat (get_or (frames_of bytes) n e)
 seat_known bytes mark n seat e fits f lt is = subst (λ (s : Seat). IsSeatOf bytes s (get_or (frames_of bytes) n e)) (sym is) (front_seat bytes mark n seat e fits f lt).stands
 
 -- a range of the text
@@ -220,20 +242,25 @@ some_frames : (es : List Entry) (at n : ℕ) → IsWithin (text_of es) at n → 
 some_frames [] at n x = absurd (omega (arith, x.behind, x.inside))
 some_frames (e ∷ es) at n x = omega arith
 
-pub within_told : (bytes : List ℕ) (mark : LogMark) (at n : ℕ) → AreBytes bytes → Front bytes mark → IsWithin (text_of (frames_of bytes)) at n → Told bytes (frames_of bytes)
+pub within_told : (bytes : List ℕ) (mark : LogMark) (at n : ℕ) → AreBytes bytes → Front bytes mark
+    → IsWithin (text_of (frames_of bytes)) at n → Told bytes (frames_of bytes)
 within_told bytes mark at n fits f x = told_text bytes mark fits f (some_frames (frames_of bytes) at n x)
 
-pub within_room : (bytes : List ℕ) (es : List Entry) (at n : ℕ) → Told bytes es → IsWithin (text_of es) at n → at + n ≤ length bytes
+pub within_room : (bytes : List ℕ) (es : List Entry) (at n : ℕ) → Told bytes es
+    → IsWithin (text_of es) at n → at + n ≤ length bytes
 within_room bytes es at n t x = omega (arith, x.inside, ap length t.is, length-append (text_of es) t.rest)
 
-pub within_shown : (bytes : List ℕ) (es : List Entry) (at n : ℕ) → Told bytes es → IsWithin (text_of es) at n → take n (drop at bytes) ≡ take n (drop at (text_of es))
+pub within_shown : (bytes : List ℕ) (es : List Entry) (at n : ℕ) → Told bytes es
+    → IsWithin (text_of es) at n → take n (drop at bytes) ≡ take n (drop at (text_of es))
 within_shown bytes es at n t x = shown_front bytes (text_of es) t.rest at n t.is x.inside
 
 -- a mark of no frames is one of any
-pub mark_none : (mark : LogMark) → mark.seats.items ≡ [] → mark.end ≡ GATE → mark.contents ≡ 0 → mark.generation ≡ 0 → (fs : List Entry) → IsMarkOf mark fs
+pub mark_none : (mark : LogMark) → mark.seats.items ≡ [] → mark.end ≡ GATE → mark.contents ≡ 0
+    → mark.generation ≡ 0 → (fs : List Entry) → IsMarkOf mark fs
 mark_none mark seats end contents generation fs = subst (λ (n : ℕ). IsIndexOf mark (take n fs)) (sym (ap length seats)) (index_none mark seats end contents generation)
 
-formed_front : (xs before ys : List Entry) → all_formed before (xs ++ ys) ≡ true → all_formed before xs ≡ true
+formed_front : (xs before ys : List Entry) → all_formed before (xs ++ ys) ≡ true
+    → all_formed before xs ≡ true
 formed_front [] before ys formed = refl
 formed_front (x ∷ xs) before ys formed = let p = and_parts _ _ formed in and_from _ _ p.0 (formed_front xs (before ++ x ∷ []) ys p.1)
 
@@ -243,7 +270,9 @@ pub record Marked (bytes : List ℕ) (mark : LogMark) : Type 0 where
   pub index : IsIndex bytes es mark
   pub inside : mark.end < length bytes
 
-marked_by : (bytes : List ℕ) (mark : LogMark) (es : List Entry) (rest : List ℕ) → bytes ≡ magic ++ (opened es ++ rest) → 1 ≤ length rest → all_formed [] es ≡ true → IsIndexOf mark es → Marked bytes mark
+marked_by : (bytes : List ℕ) (mark : LogMark) (es : List Entry) (rest : List ℕ)
+    → bytes ≡ magic ++ (opened es ++ rest) → 1 ≤ length rest → all_formed [] es ≡ true
+    → IsIndexOf mark es → Marked bytes mark
 marked_by bytes mark es rest is more formed x = record {
   es = es;
   index = record {
@@ -262,7 +291,8 @@ unfolding no_entries
 none_taken zero = refl
 none_taken (suc n) = refl
 
-pub marked_index : (bytes : List ℕ) (mark : LogMark) → AreBytes bytes → 9 < length bytes → bytes_eq (take 8 bytes) magic ≡ true → IsMarkOf mark (frames_of bytes) → Marked bytes mark
+pub marked_index : (bytes : List ℕ) (mark : LogMark) → AreBytes bytes → 9 < length bytes
+    → bytes_eq (take 8 bytes) magic ≡ true → IsMarkOf mark (frames_of bytes) → Marked bytes mark
 unfolding no_entries
 marked_index bytes mark fits long good x =
     (elim (reading bytes) as (λ (r : Result (List Entry) Fault). reading bytes ≡ r → Marked bytes mark) [

@@ -12,7 +12,8 @@ use Rattle.record_log.specs.Kinds.{Entry, is_long, width_of, limit_of, has_form,
 pub record IsWide (w : Width) (limit : ℕ) : Type 0 where
   pub few : byte_len w ≤ 8
   pub len : (n : ℕ) → length (to_le_bytes w n) ≡ byte_len w
-  pub back : (bytes : List ℕ) → length bytes ≡ byte_len w → AreBytes bytes → to_le_bytes w (from_le_bytes w bytes) ≡ bytes
+  pub back : (bytes : List ℕ) → length bytes ≡ byte_len w → AreBytes bytes
+      → to_le_bytes w (from_le_bytes w bytes) ≡ bytes
   pub again : (n : ℕ) → n < limit → from_le_bytes w (to_le_bytes w n) ≡ n
 
 pub wide32 : IsWide w32 (2 ^ 32)
@@ -28,24 +29,32 @@ wide_if false = wide32
 join : (a b c d r : List ℕ) → (a ++ (b ++ (c ++ d))) ++ r ≡ a ++ (b ++ (c ++ (d ++ r)))
 join a b c d r = simp append_assoc
 
-pub frame_some : (w : Width) (before : List Entry) (kind : ℕ) (tail : List ℕ) → 1 + (key_len w tail + value_len w tail) ≤ length (body w tail) → has_form before (entry_in w kind tail) ≡ true → frame_in w before kind tail ≡ Some (entry_in w kind tail)
+pub frame_some : (w : Width) (before : List Entry) (kind : ℕ) (tail : List ℕ)
+    → 1 + (key_len w tail + value_len w tail) ≤ length (body w tail)
+    → has_form before (entry_in w kind tail) ≡ true
+    → frame_in w before kind tail ≡ Some (entry_in w kind tail)
 unfolding frame_in
 frame_some w before kind tail fits h =
     ap (λ (b : Bool). cond b None (cond (has_form before (entry_in w kind tail)) (Some (entry_in w kind tail)) None)) (le-ltb _ _ fits)
     ∙ ap (λ (b : Bool). cond b (Some (entry_in w kind tail)) None) h
 
-pub frame_short : (w : Width) (before : List Entry) (kind : ℕ) (tail : List ℕ) → length (body w tail) < 1 + (key_len w tail + value_len w tail) → frame_in w before kind tail ≡ None
+pub frame_short : (w : Width) (before : List Entry) (kind : ℕ) (tail : List ℕ)
+    → length (body w tail) < 1 + (key_len w tail + value_len w tail)
+    → frame_in w before kind tail ≡ None
 unfolding frame_in
 frame_short w before kind tail short = ap (λ (b : Bool). cond b None (cond (has_form before (entry_in w kind tail)) (Some (entry_in w kind tail)) None)) (lt-ltb _ _ short)
 
-frame_unformed : (w : Width) (before : List Entry) (kind : ℕ) (tail : List ℕ) → 1 + (key_len w tail + value_len w tail) ≤ length (body w tail) → has_form before (entry_in w kind tail) ≡ false → frame_in w before kind tail ≡ None
+frame_unformed : (w : Width) (before : List Entry) (kind : ℕ) (tail : List ℕ)
+    → 1 + (key_len w tail + value_len w tail) ≤ length (body w tail)
+    → has_form before (entry_in w kind tail) ≡ false → frame_in w before kind tail ≡ None
 unfolding frame_in
 frame_unformed w before kind tail fits bad =
     ap (λ (b : Bool). cond b None (cond (has_form before (entry_in w kind tail)) (Some (entry_in w kind tail)) None)) (le-ltb _ _ fits)
     ∙ ap (λ (b : Bool). cond b (Some (entry_in w kind tail)) None) bad
 
 -- whatever is not formed stands for no frame
-pub frame_bad : (w : Width) (before : List Entry) (kind : ℕ) (tail : List ℕ) → has_form before (entry_in w kind tail) ≡ false → frame_in w before kind tail ≡ None
+pub frame_bad : (w : Width) (before : List Entry) (kind : ℕ) (tail : List ℕ)
+    → has_form before (entry_in w kind tail) ≡ false → frame_in w before kind tail ≡ None
 frame_bad w before kind tail bad = elim (cases_lt (length (body w tail)) (1 + (key_len w tail + value_len w tail))) [
   | inl short ↦ frame_short w before kind tail short
   | inr long ↦ frame_unformed w before kind tail long bad
@@ -59,7 +68,8 @@ module _ (w : Width) (limit : ℕ) (wide : IsWide w limit) where
     pub behind : body w tail ≡ e.key ++ (e.value ++ rest)
     pub whole : entry_in w e.kind tail ≡ e
 
-  read_in : (e : Entry) (rest : List ℕ) → length e.key < limit → length e.value < limit → IsRead (to_le_bytes w (length e.key) ++ (to_le_bytes w (length e.value) ++ (e.key ++ (e.value ++ rest)))) e rest
+  read_in : (e : Entry) (rest : List ℕ) → length e.key < limit → length e.value < limit
+      → IsRead (to_le_bytes w (length e.key) ++ (to_le_bytes w (length e.value) ++ (e.key ++ (e.value ++ rest)))) e rest
   read_in e rest short_key short_value = record { key = k; value = v; behind = at_body; whole = whole }
     where
       a : List ℕ
@@ -93,10 +103,13 @@ module _ (w : Width) (limit : ℕ) (wide : IsWide w limit) where
       whole = λ i. record { kind = e.kind; key = key i; value = value i }
 
   -- the same of the text as it is written
-  pub text_read : (e : Entry) (rest : List ℕ) → length e.key < limit → length e.value < limit → IsRead ((to_le_bytes w (length e.key) ++ (to_le_bytes w (length e.value) ++ (e.key ++ e.value))) ++ rest) e rest
+  pub text_read : (e : Entry) (rest : List ℕ) → length e.key < limit → length e.value < limit
+      → IsRead ((to_le_bytes w (length e.key) ++ (to_le_bytes w (length e.value) ++ (e.key ++ e.value))) ++ rest) e rest
   text_read e rest short_key short_value = subst (λ (l : List ℕ). IsRead l e rest) (sym (join (to_le_bytes w (length e.key)) (to_le_bytes w (length e.value)) e.key e.value rest)) (read_in e rest short_key short_value)
 
-  again_in : (before : List Entry) (e : Entry) (rest : List ℕ) → length e.key < limit → length e.value < limit → has_form before e ≡ true → 1 ≤ length rest → frame_in w before e.kind ((to_le_bytes w (length e.key) ++ (to_le_bytes w (length e.value) ++ (e.key ++ e.value))) ++ rest) ≡ Some e
+  again_in : (before : List Entry) (e : Entry) (rest : List ℕ) → length e.key < limit
+      → length e.value < limit → has_form before e ≡ true → 1 ≤ length rest
+      → frame_in w before e.kind ((to_le_bytes w (length e.key) ++ (to_le_bytes w (length e.value) ++ (e.key ++ e.value))) ++ rest) ≡ Some e
   again_in before e rest short_key short_value h more =
       let tail = (to_le_bytes w (length e.key) ++ (to_le_bytes w (length e.value) ++ (e.key ++ e.value))) ++ rest in
       let r : IsRead tail e rest = text_read e rest short_key short_value in
@@ -106,7 +119,8 @@ module _ (w : Width) (limit : ℕ) (wide : IsWide w limit) where
   length-text_in : (e : Entry) → length (text_in w e) ≡ size_in w e
   length-text_in e = omega (arith, wide.len (length e.key), wide.len (length e.value), length-append (to_le_bytes w (length e.key)) (to_le_bytes w (length e.value) ++ (e.key ++ e.value)), length-append (to_le_bytes w (length e.value)) (e.key ++ e.value), length-append e.key e.value)
 
-  taken_in : (kind : ℕ) (tail : List ℕ) → AreBytes tail → 1 + (key_len w tail + value_len w tail) ≤ length (body w tail)
+  taken_in : (kind : ℕ) (tail : List ℕ) → AreBytes tail
+      → 1 + (key_len w tail + value_len w tail) ≤ length (body w tail)
       → ((kind ∷ tail) ≡ text_in w (entry_in w kind tail) ++ drop (size_in w (entry_in w kind tail)) (kind ∷ tail)) × (size_in w (entry_in w kind tail) < length (kind ∷ tail))
   taken_in kind tail fits long = (whole ∙ ap (λ (l : List ℕ). text_in w e ++ l) (sym rest_is), omega (arith, ap length whole, length-append (text_in w e) r, length-text_in e, r_long))
     where
@@ -171,12 +185,9 @@ short_lens before e h =
     let q = and_parts _ _ p.1 in
     record { key = ltb-true _ _ q.0; value = ltb-true _ _ q.1 }
 
-pub length-text : (e : Entry) → length (text e) ≡ size e
-unfolding text size
-length-text e = length-text_in (width_of e.kind) (limit_of e.kind) (wide_if (is_long e.kind)) e
-
 -- what is written is read
-pub again : (before : List Entry) (e : Entry) (rest : List ℕ) → has_form before e ≡ true → 1 ≤ length rest → frame_at before (text e ++ rest) ≡ Some e
+pub again : (before : List Entry) (e : Entry) (rest : List ℕ) → has_form before e ≡ true
+    → 1 ≤ length rest → frame_at before (text e ++ rest) ≡ Some e
 unfolding text frame_at
 again before e rest h more =
     let short = short_lens before e h in
@@ -195,7 +206,8 @@ pub record IsTaken (before : List Entry) (bytes : List ℕ) (e : Entry) : Type 0
   pub formed : has_form before e ≡ true
   pub room : size e < length bytes
 
-pub taken : (before : List Entry) (bytes : List ℕ) (e : Entry) → AreBytes bytes → frame_at before bytes ≡ Some e → IsTaken before bytes e
+pub taken : (before : List Entry) (bytes : List ℕ) (e : Entry) → AreBytes bytes
+    → frame_at before bytes ≡ Some e → IsTaken before bytes e
 unfolding text size some frame_at
 taken before [] e fits found = absurd cc
 taken before (kind ∷ tail) e fits found =

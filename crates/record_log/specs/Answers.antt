@@ -1,5 +1,6 @@
 -- When a log answers what.
 use Rattle.std.specs.Prelude.{◌≡◌, ◌<◌, ◌≤◌, ℕ, Bool, true, false, Result, Err}
+use Rattle.rel_path.specs.Causes.{Counts}
 use Rattle.store_dev.specs.declared.device.StoreErr.{StoreErr}
 use Rattle.store_dev.specs.declared.device.StoreErr.TheVariants as store
 use Rattle.record_log.specs.Kinds.{Entry}
@@ -18,6 +19,10 @@ of_store store.OutOfMemory = OutOfMemory
 abbrev pub is_fault : LogErr → Bool
 is_fault Failed = true
 is_fault _ = false
+
+-- that is told by the device's count of faults over a call
+abbrev pub Counted : {T : Type 0} → ℕ → ℕ → Result T LogErr → Type 0
+Counted before now result = Counts is_fault before now result
 
 -- the errors of opening
 abbrev pub IsOpenErr : LogErr → Type 0

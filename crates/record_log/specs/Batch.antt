@@ -19,7 +19,8 @@ AllKnown (e ∷ es) = (is_known e.kind ≡ true) × AllKnown es
 -- key and value of each are as short as its kind asks
 abbrev pub EachWithin : List Entry → Type 0
 EachWithin [] = Unit {0}
-EachWithin (e ∷ es) = (length e.key < limit_of e.kind) × (length e.value < limit_of e.kind) × EachWithin es
+EachWithin (e ∷ es) =
+    (length e.key < limit_of e.kind) × (length e.value < limit_of e.kind) × EachWithin es
 
 -- what they take in a store, each with a gate, or 2^64 - 1 where that is more
 abbrev pub room_for_all : List Entry → ℕ

@@ -14,19 +14,23 @@ pub form_1 : (contents : ℕ) (e : Entry) → e.kind ≡ PAIR → form contents 
 unfolding form
 form_1 contents e is = ap (λ (k : ℕ). lens_fit k (length e.key) (length e.value) && value_fits contents k e.value) is
 
-pub form_2 : (contents : ℕ) (e : Entry) → e.kind ≡ CONTENT → length e.key ≡ DIGEST_BYTES → form contents e ≡ true
+pub form_2 : (contents : ℕ) (e : Entry) → e.kind ≡ CONTENT → length e.key ≡ DIGEST_BYTES
+    → form contents e ≡ true
 unfolding form
 form_2 contents e is len = (λ i. lens_fit (is i) (len i) (length e.value) && value_fits contents (is i) e.value)
 
-pub form_3 : (contents : ℕ) (e : Entry) → e.kind ≡ RECORD → length e.key ≡ DIGEST_BYTES → both_below contents (record_of w32 e.value) ≡ true → form contents e ≡ true
+pub form_3 : (contents : ℕ) (e : Entry) → e.kind ≡ RECORD → length e.key ≡ DIGEST_BYTES
+    → both_below contents (record_of w32 e.value) ≡ true → form contents e ≡ true
 unfolding form
 form_3 contents e is len reads = (λ i. lens_fit (is i) (len i) (length e.value) && value_fits contents (is i) e.value) ∙ reads
 
-pub form_4 : (contents : ℕ) (e : Entry) → e.kind ≡ LONG_RECORD → length e.key ≡ DIGEST_BYTES → both_below contents (record_of w64 e.value) ≡ true → form contents e ≡ true
+pub form_4 : (contents : ℕ) (e : Entry) → e.kind ≡ LONG_RECORD → length e.key ≡ DIGEST_BYTES
+    → both_below contents (record_of w64 e.value) ≡ true → form contents e ≡ true
 unfolding form
 form_4 contents e is len reads = (λ i. lens_fit (is i) (len i) (length e.value) && value_fits contents (is i) e.value) ∙ reads
 
-pub form_5 : (contents : ℕ) (e : Entry) → e.kind ≡ GENERATION → length e.key ≡ GENERATION_BYTES → length e.value ≡ 0 → form contents e ≡ true
+pub form_5 : (contents : ℕ) (e : Entry) → e.kind ≡ GENERATION → length e.key ≡ GENERATION_BYTES
+    → length e.value ≡ 0 → form contents e ≡ true
 unfolding form
 form_5 contents e is len none = (λ i. lens_fit (is i) (len i) (none i) && value_fits contents (is i) e.value)
 
@@ -38,5 +42,6 @@ unfolding size
 size_short e other = ap (λ (b : Bool). size_in (cond b w64 w32) e) (ne_eqb e.kind LONG_RECORD other) ∙ omega arith
 
 -- what a frame takes whose lengths have four bytes
-pub room_short : (e : Entry) → e.kind ≢ LONG_RECORD → length e.key < 2 ^ 32 → length e.value < 2 ^ 32 → room_for e ≡ 10 + (length e.key + length e.value)
+pub room_short : (e : Entry) → e.kind ≢ LONG_RECORD → length e.key < 2 ^ 32
+    → length e.value < 2 ^ 32 → room_for e ≡ 10 + (length e.key + length e.value)
 room_short e other key value = omega (arith, size_short e other)

@@ -13,7 +13,13 @@ pub data Fault : Type 0 where
 -- is open, and the first one that is not ends the store.
 abbrev pub walk : List Entry → ℕ → ℕ → List ℕ → Result (List Entry) Fault
 walk before at (suc skip) (_ ∷ rest) = walk before (at + 1) skip rest
-walk before at zero (gate ∷ rest) = if gate == 1 then (elim (frame_at before rest) [ Some e ↦ walk (before ++ e ∷ []) (at + 1) (size e) rest | None ↦ Err (Damaged (at + 1)) ]) else Ok before
+walk before at zero (gate ∷ rest) =
+    if gate == 1
+    then (elim (frame_at before rest) [
+      | Some e ↦ walk (before ++ e ∷ []) (at + 1) (size e) rest
+      | None ↦ Err (Damaged (at + 1))
+    ])
+    else Ok before
 walk before at skip [] = Ok before
 
 -- how a store begins
@@ -22,7 +28,10 @@ magic = codes "TURBSTO1"
 
 -- The frames of a store, or why the bytes are none. At most nine bytes are an empty store, whatever they are.
 unfoldable pub reading : List ℕ → Result (List Entry) Fault
-reading bytes = if nat_lt 9 (length bytes) then (if bytes_eq (take 8 bytes) magic then walk [] 8 0 (drop 8 bytes) else Err NotAStore) else Ok []
+reading bytes =
+    if nat_lt 9 (length bytes)
+    then (if bytes_eq (take 8 bytes) magic then walk [] 8 0 (drop 8 bytes) else Err NotAStore)
+    else Ok []
 
 -- the frames that count, and none where the bytes are no store
 unfoldable pub frames_of : List ℕ → List Entry

@@ -43,7 +43,8 @@ blobs es = length (blobs_in es)
 
 -- how many contents there are behind a frame of that kind, counted in a `u64`
 abbrev pub contents_after : ℕ → ℕ → ℕ
-contents_after contents kind = if kind == CONTENT then min (contents + 1) (2 ^ 64 - 1) else contents
+contents_after contents kind =
+    if kind == CONTENT then min (contents + 1) (2 ^ 64 - 1) else contents
 
 -- the kinds whose value is the pieces of a pair
 abbrev pub holds_record : ℕ → Bool
@@ -52,23 +53,31 @@ holds_record kind = (kind == RECORD) || (kind == LONG_RECORD)
 -- Whether key and value have the lengths that a kind asks for: those of a pair may be any, a content and a record stand
 -- behind a digest, and a generation is a number of eight bytes.
 abbrev pub lens_fit : ℕ → ℕ → ℕ → Bool
-lens_fit kind key value = (kind == PAIR) || ((((kind == CONTENT) || holds_record kind) && (key == DIGEST_BYTES)) || ((kind == GENERATION) && ((key == GENERATION_BYTES) && (value == 0))))
+lens_fit kind key value =
+    (kind == PAIR)
+    || ((((kind == CONTENT) || holds_record kind) && (key == DIGEST_BYTES))
+    || ((kind == GENERATION) && ((key == GENERATION_BYTES) && (value == 0))))
 
 -- whether a record's value is one, and names none but the contents before it, of which there are so many
 abbrev pub value_fits : ℕ → ℕ → List ℕ → Bool
-value_fits contents kind value = if holds_record kind then both_below contents (record_of (width_of kind) value) else true
+value_fits contents kind value =
+    if holds_record kind then both_below contents (record_of (width_of kind) value) else true
 
 -- whether a frame has its kind's form, where so many contents stand before it
 unfoldable pub form : ℕ → Entry → Bool
-form contents e = lens_fit e.kind (length e.key) (length e.value) && value_fits contents e.kind e.value
+form contents e =
+    lens_fit e.kind (length e.key) (length e.value) && value_fits contents e.kind e.value
 
 -- a frame that may stand behind these
 unfoldable pub has_form : List Entry → Entry → Bool
-has_form before e = form (blobs before) e && (nat_lt (length e.key) (limit_of e.kind) && nat_lt (length e.value) (limit_of e.kind))
+has_form before e =
+    form (blobs before) e
+    && (nat_lt (length e.key) (limit_of e.kind) && nat_lt (length e.value) (limit_of e.kind))
 
 -- the bytes of a frame whose lengths have that width: kind, both lengths, key and value
 abbrev pub text_in : Width → Entry → List ℕ
-text_in w e = e.kind ∷ (to_le_bytes w (length e.key) ++ (to_le_bytes w (length e.value) ++ (e.key ++ e.value)))
+text_in w e =
+    e.kind ∷ (to_le_bytes w (length e.key) ++ (to_le_bytes w (length e.value) ++ (e.key ++ e.value)))
 
 -- how many they are
 abbrev pub size_in : Width → Entry → ℕ
@@ -109,7 +118,11 @@ body w tail = drop (byte_len w) (drop (byte_len w) tail)
 
 -- the frame that a kind and what follows it tell of
 abbrev pub entry_in : Width → ℕ → List ℕ → Entry
-entry_in w kind tail = record { kind = kind; key = take (key_len w tail) (body w tail); value = take (value_len w tail) (drop (key_len w tail) (body w tail)) }
+entry_in w kind tail = record {
+  kind = kind;
+  key = take (key_len w tail) (body w tail);
+  value = take (value_len w tail) (drop (key_len w tail) (body w tail));
+}
 
 -- the frame that the front of the bytes tells of, whole or not
 abbrev pub told : List ℕ → Entry
@@ -118,7 +131,10 @@ told (kind ∷ tail) = entry_in (width_of kind) kind tail
 
 -- it stands there where it is whole, a gate follows it and it has its kind's form
 unfoldable pub frame_in : Width → List Entry → ℕ → List ℕ → Option Entry
-frame_in w before kind tail = if nat_lt (length (body w tail)) (1 + (key_len w tail + value_len w tail)) then None else (if has_form before (entry_in w kind tail) then Some (entry_in w kind tail) else None)
+frame_in w before kind tail =
+    if nat_lt (length (body w tail)) (1 + (key_len w tail + value_len w tail))
+    then None
+    else (if has_form before (entry_in w kind tail) then Some (entry_in w kind tail) else None)
 
 -- the frame at the front of the bytes, behind the frames before it
 unfoldable pub frame_at : List Entry → List ℕ → Option Entry

@@ -1,4 +1,6 @@
 pub mod Pieces
+pub mod Records
+pub mod Texts
 pub mod Kinds
 pub mod Seats
 pub mod Frames

@@ -7,7 +7,8 @@ use Rattle.record_log.specs.Kinds.{Entry, head_of, limit_of, lens_fit, size, tol
 
 -- the seat of a frame at that offset
 abbrev pub seat_of : ℕ → Entry → Seat
-seat_of at e = record { kind = e.kind; at = at; key_len = length e.key; value_len = length e.value }
+seat_of at e =
+    record { kind = e.kind; at = at; key_len = length e.key; value_len = length e.value }
 
 -- the seats of frames one after another, where the first gate is at that place
 abbrev pub seats_from : ℕ → List Entry → List Seat
@@ -27,13 +28,15 @@ abbrev pub key_span : Seat → Span
 key_span seat = record { at = capped seat.at (head_of seat.kind); len = seat.key_len }
 
 abbrev pub value_span : Seat → Span
-value_span seat = record { at = capped (capped seat.at (head_of seat.kind)) seat.key_len; len = seat.value_len }
+value_span seat =
+    record { at = capped (capped seat.at (head_of seat.kind)) seat.key_len; len = seat.value_len }
 
 -- The seat tells where the parts of the frame stand in these bytes, a gate behind them.
 pub record IsSeatOf (bytes : List ℕ) (seat : Seat) (e : Entry) : Type 0 where
   pub is : seat ≡ seat_of seat.at e
   pub key : take (length e.key) (drop (seat.at + head_of e.kind) bytes) ≡ e.key
-  pub value : take (length e.value) (drop (seat.at + head_of e.kind + length e.key) bytes) ≡ e.value
+  pub value : take (length e.value) (drop (seat.at + head_of e.kind + length e.key) bytes)
+      ≡ e.value
   pub room : seat.at + (head_of e.kind + (length e.key + length e.value)) < length bytes
 
 -- these bytes, up to their end, begin so at that offset

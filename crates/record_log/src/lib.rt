@@ -19,7 +19,8 @@ mod steps;
 mod window;
 
 pub use error::{LogErr, Unopened};
-pub use frame::{Frame, NewFrame};
-pub use kind::{CONTENT, GENERATION, LONG_RECORD, PAIR, RECORD};
+pub use frame::{Frame, NewFrame, need_of};
+pub use kind::{CONTENT, DIGEST_BYTES, GENERATION, LONG_RECORD, PAIR, RECORD, head_of, is_long};
 pub use log::Log;
 pub use mark::LogMark;
+pub use piece::{PieceRef, count_at, piece_at, put_count, put_piece, record_law};

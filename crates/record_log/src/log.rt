@@ -25,8 +25,7 @@ pub struct Log<S: StoreDevice> {
 }
 
 impl<S: StoreDevice> Log<S> {
-    ghost use Rattle.rel_path.specs.Causes.{Counts};
-    ghost use Rattle.store_dev.specs.Device.{LeavesOnly, Only, OnlyReads};
+    ghost use Rattle.store_dev.specs.Device.{LeavesOnly};
     ghost use Rattle.record_log.specs.Kinds.{Entry, entry, limit_of, is_known, form, blobs, room_for};
     ghost use Rattle.record_log.specs.Frames.{frames_of, reading, IsAt, IsBeforeOrAfter, IsOpenedAs, ReadsAsOneOf, ends, text_of};
     ghost use Rattle.record_log.specs.Frames.{all_formed, IsSound, ReadsAsOneOrNone};
@@ -34,24 +33,34 @@ impl<S: StoreDevice> Log<S> {
     ghost use Rattle.record_log.specs.Batch.{new_entries, AllKnown, EachWithin, room_for_all, IsBeforeOrAll};
     ghost use Rattle.record_log.specs.Seats.{IsWithin, IsSpanOf, capped};
     ghost use Rattle.record_log.specs.Log.{device_of, frames_in, count_of, is_whole, room_of, probes_of, generation_in};
-    ghost use Rattle.record_log.specs.Answers.{is_fault, IsOpenErr, IsAppendErr, IsReadErr, IsFaultOf, raised, entry_of, WholeAfter, IsFullWhere};
+    ghost use Rattle.record_log.specs.Log.{IsDurable, OnlyReadIn, CountsIn, LeavesOnlyIn};
+    ghost use Rattle.record_log.specs.Answers.{Counted, IsOpenErr, IsAppendErr, IsReadErr, IsFaultOf, raised, entry_of, WholeAfter, IsFullWhere};
 
     /// Opens a device as a log, whose frames are those that the device holds. At most nine bytes are an empty store,
     /// which is then written. What is no store is handed back as it was.
     pub fn open(alloc: Global, store: S) -> Result<Log<S>, Unopened<S, LogErr>>
-        ensures ok { S.tells → IfOk result (λ log. IsOpenedAs (S.content store) (S.content (device_of log))) }
+        ensures ok { S.tells
+            → IfOk result (λ log. IsOpenedAs (S.content store) (S.content (device_of log))) }
         ensures whole { IfOk result (λ log. IsTrue (is_whole log)) }
         ensures probes { IfOk result (λ log. probes_of log ≡ 0) }
-        ensures fault { S.tells → IfErr result (λ u. IsFaultOf (raised u.fault) (reading (S.content store))) }
+        ensures fault { S.tells
+            → IfErr result (λ u. IsFaultOf (raised u.fault) (reading (S.content store))) }
         ensures answers { IfErr result (λ u. IsOpenErr u.fault) }
-        ensures same { S.tells → 9 < length (S.content store) → IfErr result (λ u. S.content u.store ≡ S.content store) }
+        ensures same { S.tells → 9 < length (S.content store)
+            → IfErr result (λ u. S.content u.store ≡ S.content store) }
 
         // Whatever it answers, each image since it began stands for what one of the images stood for as it began.
-        ensures images_ok { S.tells → IfOk result (λ log. LeavesOnly S.moment S.images_since store (device_of log) (ReadsAsOneOf (S.images store))) }
-        ensures images_err { S.tells → IfErr result (λ u. LeavesOnly S.moment S.images_since store u.store (ReadsAsOneOf (S.images store))) }
-        ensures durable { S.tells → IfOk result (λ log. Only (S.content (device_of log)) (S.images (device_of log))) }
-        ensures cause_ok { IfOk result (λ log. S.store_faults (device_of log) ≡ S.store_faults store) }
-        ensures cause_err { IfErr result (λ u. Counts is_fault (S.store_faults store) (S.store_faults u.store) (raised u.fault)) }
+        ensures images_ok { S.tells → IfOk result (λ log.
+            LeavesOnly S.moment S.images_since store (device_of log)
+            (ReadsAsOneOf (S.images store))) }
+        ensures images_err { S.tells → IfErr result (λ u.
+            LeavesOnly S.moment S.images_since store u.store
+            (ReadsAsOneOf (S.images store))) }
+        ensures durable { S.tells → IfOk result (λ log. IsDurable log) }
+        ensures cause_ok { IfOk result (λ log.
+            S.store_faults (device_of log) ≡ S.store_faults store) }
+        ensures cause_err { IfErr result (λ u.
+            Counted (S.store_faults store) (S.store_faults u.store) (raised u.fault)) }
     {
         Log::resume(alloc, store, LogMark::new(alloc))
     }
@@ -59,19 +68,28 @@ impl<S: StoreDevice> Log<S> {
     /// Opens a device again of whose frames so many are known, and reads those behind them alone. It answers as `open`.
     pub fn resume(alloc: Global, store: S, mark: LogMark) -> Result<Log<S>, Unopened<S, LogErr>>
         requires { S.tells → IsMarkOf mark (frames_of (S.content store)) }
-        ensures ok { S.tells → IfOk result (λ log. IsOpenedAs (S.content store) (S.content (device_of log))) }
+        ensures ok { S.tells
+            → IfOk result (λ log. IsOpenedAs (S.content store) (S.content (device_of log))) }
         ensures whole { IfOk result (λ log. IsTrue (is_whole log)) }
         ensures probes { IfOk result (λ log. probes_of log ≡ 0) }
-        ensures fault { S.tells → IfErr result (λ u. IsFaultOf (raised u.fault) (reading (S.content store))) }
+        ensures fault { S.tells
+            → IfErr result (λ u. IsFaultOf (raised u.fault) (reading (S.content store))) }
         ensures answers { IfErr result (λ u. IsOpenErr u.fault) }
-        ensures same { S.tells → 9 < length (S.content store) → IfErr result (λ u. S.content u.store ≡ S.content store) }
+        ensures same { S.tells → 9 < length (S.content store)
+            → IfErr result (λ u. S.content u.store ≡ S.content store) }
 
         // Whatever it answers, each image since it began stands for what one of the images stood for as it began.
-        ensures images_ok { S.tells → IfOk result (λ log. LeavesOnly S.moment S.images_since store (device_of log) (ReadsAsOneOf (S.images store))) }
-        ensures images_err { S.tells → IfErr result (λ u. LeavesOnly S.moment S.images_since store u.store (ReadsAsOneOf (S.images store))) }
-        ensures durable { S.tells → IfOk result (λ log. Only (S.content (device_of log)) (S.images (device_of log))) }
-        ensures cause_ok { IfOk result (λ log. S.store_faults (device_of log) ≡ S.store_faults store) }
-        ensures cause_err { IfErr result (λ u. Counts is_fault (S.store_faults store) (S.store_faults u.store) (raised u.fault)) }
+        ensures images_ok { S.tells → IfOk result (λ log.
+            LeavesOnly S.moment S.images_since store (device_of log)
+            (ReadsAsOneOf (S.images store))) }
+        ensures images_err { S.tells → IfErr result (λ u.
+            LeavesOnly S.moment S.images_since store u.store
+            (ReadsAsOneOf (S.images store))) }
+        ensures durable { S.tells → IfOk result (λ log. IsDurable log) }
+        ensures cause_ok { IfOk result (λ log.
+            S.store_faults (device_of log) ≡ S.store_faults store) }
+        ensures cause_err { IfErr result (λ u.
+            Counted (S.store_faults store) (S.store_faults u.store) (raised u.fault)) }
     {
         let mut device = store;
         match start(alloc, &mut device, mark) {
@@ -98,11 +116,17 @@ impl<S: StoreDevice> Log<S> {
 
         // Whatever it answers, each image since it began stands for what one of the images stood for as it began, or for
         // no frames.
-        ensures images_ok { S.tells → IfOk result (λ log. LeavesOnly S.moment S.images_since store (device_of log) (ReadsAsOneOrNone (S.images store))) }
-        ensures images_err { S.tells → IfErr result (λ u. LeavesOnly S.moment S.images_since store u.store (ReadsAsOneOrNone (S.images store))) }
-        ensures durable { S.tells → IfOk result (λ log. Only (S.content (device_of log)) (S.images (device_of log))) }
-        ensures cause_ok { IfOk result (λ log. S.store_faults (device_of log) ≡ S.store_faults store) }
-        ensures cause_err { IfErr result (λ u. Counts is_fault (S.store_faults store) (S.store_faults u.store) (raised u.fault)) }
+        ensures images_ok { S.tells → IfOk result (λ log.
+            LeavesOnly S.moment S.images_since store (device_of log)
+            (ReadsAsOneOrNone (S.images store))) }
+        ensures images_err { S.tells → IfErr result (λ u.
+            LeavesOnly S.moment S.images_since store u.store
+            (ReadsAsOneOrNone (S.images store))) }
+        ensures durable { S.tells → IfOk result (λ log. IsDurable log) }
+        ensures cause_ok { IfOk result (λ log.
+            S.store_faults (device_of log) ≡ S.store_faults store) }
+        ensures cause_err { IfErr result (λ u.
+            Counted (S.store_faults store) (S.store_faults u.store) (raised u.fault)) }
     {
         let mut device = store;
         match clear(alloc, &mut device) {
@@ -131,7 +155,8 @@ impl<S: StoreDevice> Log<S> {
         ensures device { result.1 ≡ device_of self }
         ensures count { marked result.0 ≡ count_of self }
         ensures mark { S.tells → IsMarkOf result.0 (frames_of (S.content result.1)) }
-        ensures all { IsTrue (is_whole self) → S.tells → marked result.0 ≡ length (frames_of (S.content result.1)) }
+        ensures all { IsTrue (is_whole self) → S.tells
+            → marked result.0 ≡ length (frames_of (S.content result.1)) }
     {
         (self.mark, self.device)
     }
@@ -147,7 +172,8 @@ impl<S: StoreDevice> Log<S> {
     /// How many frames there are.
     pub fn frames(&self) -> u64
         ensures count { result ≡ count_of self.now }
-        ensures frames { IsTrue (is_whole self.now) → S.tells → result ≡ length (frames_in self.now) }
+        ensures frames { IsTrue (is_whole self.now) → S.tells
+            → result ≡ length (frames_in self.now) }
         ensures few { S.tells → result ≤ length (frames_in self.now) }
     {
         self.mark.seats.len() as u64
@@ -156,7 +182,8 @@ impl<S: StoreDevice> Log<S> {
     /// How many bytes more the frames may take, each with the gate behind it.
     pub fn room(&self) -> u64
         ensures room { result ≡ room_of self.now }
-        ensures frames { IsTrue (is_whole self.now) → S.tells → result ≡ store_limit - ends (frames_in self.now) }
+        ensures frames { IsTrue (is_whole self.now) → S.tells
+            → result ≡ store_limit - ends (frames_in self.now) }
     {
         MAX_STORE_BYTES.saturating_sub(self.mark.end + 1)
     }
@@ -180,7 +207,8 @@ impl<S: StoreDevice> Log<S> {
     /// Where its key stands in the text of the frames.
     pub fn key_span(&self, number: u64) -> Span
         requires { number < count_of self.now }
-        ensures { S.tells → (e : Entry) → IsAt (frames_in self.now) number e → IsSpanOf (text_of (frames_in self.now)) result e.key }
+        ensures { S.tells → (e : Entry) → IsAt (frames_in self.now) number e
+            → IsSpanOf (text_of (frames_in self.now)) result e.key }
     {
         let seat = self.mark.seats[number as usize];
         seat.key()
@@ -189,7 +217,8 @@ impl<S: StoreDevice> Log<S> {
     /// Where its value stands.
     pub fn value_span(&self, number: u64) -> Span
         requires { number < count_of self.now }
-        ensures { S.tells → (e : Entry) → IsAt (frames_in self.now) number e → IsSpanOf (text_of (frames_in self.now)) result e.value }
+        ensures { S.tells → (e : Entry) → IsAt (frames_in self.now) number e
+            → IsSpanOf (text_of (frames_in self.now)) result e.value }
     {
         let seat = self.mark.seats[number as usize];
         seat.value()
@@ -198,14 +227,15 @@ impl<S: StoreDevice> Log<S> {
     /// The frame with that number.
     pub fn frame_at(&mut self, alloc: Global, number: u64) -> Result<Frame, LogErr>
         requires { number < count_of self.old }
-        ensures frame { S.tells → IfOk result (λ f. IsAt (frames_in self.old) number (entry_of f)) }
-        ensures reads { OnlyReads S.content S.images S.moment S.images_since (device_of self.old) (device_of self.new) }
+        ensures frame { S.tells
+            → IfOk result (λ f. IsAt (frames_in self.old) number (entry_of f)) }
+        ensures reads { OnlyReadIn self.old self.new }
         ensures whole { is_whole self.new ≡ is_whole self.old }
         ensures count { count_of self.new ≡ count_of self.old }
         ensures room { room_of self.new ≡ room_of self.old }
         ensures probes { probes_of self.new ≡ capped (probes_of self.old) 1 }
         ensures answers { IfErr result IsReadErr }
-        ensures cause { Counts is_fault (S.store_faults (device_of self.old)) (S.store_faults (device_of self.new)) result }
+        ensures cause { CountsIn self.old self.new result }
     {
         self.probes = self.probes.saturating_add(1);
         let seat = self.mark.seats[number as usize];
@@ -216,14 +246,15 @@ impl<S: StoreDevice> Log<S> {
     /// Fills the buffer with that part of the text of the frames. It takes no memory.
     pub fn read_span(&mut self, at: u64, to: &mut [u8]) -> Result<(), LogErr>
         requires { S.tells → IsWithin (text_of (frames_in self.old)) at (length to.old) }
-        ensures value { S.tells → OnOk result (to.new ≡ take (length to.old) (drop at (text_of (frames_in self.old)))) }
-        ensures reads { OnlyReads S.content S.images S.moment S.images_since (device_of self.old) (device_of self.new) }
+        ensures value { S.tells → OnOk result (to.new
+            ≡ take (length to.old) (drop at (text_of (frames_in self.old)))) }
+        ensures reads { OnlyReadIn self.old self.new }
         ensures whole { is_whole self.new ≡ is_whole self.old }
         ensures count { count_of self.new ≡ count_of self.old }
         ensures room { room_of self.new ≡ room_of self.old }
         ensures probes { probes_of self.new ≡ capped (probes_of self.old) 1 }
         ensures answers { IfErr result (λ e. e ≡ LogErr.Failed) }
-        ensures cause { Counts is_fault (S.store_faults (device_of self.old)) (S.store_faults (device_of self.new)) result }
+        ensures cause { CountsIn self.old self.new result }
     {
         self.probes = self.probes.saturating_add(1);
         self.device.read_at(at, to)?;
@@ -240,29 +271,34 @@ impl<S: StoreDevice> Log<S> {
     ) -> Result<u64, LogErr>
         requires whole { IsTrue (is_whole self.old) }
         requires known { IsTrue (is_known kind) }
-        requires form { S.tells → IsTrue (form (blobs (frames_in self.old)) (entry kind key.now value.now)) }
+        requires form { S.tells
+            → IsTrue (form (blobs (frames_in self.old)) (entry kind key.now value.now)) }
         requires key_len { length key.now < limit_of kind }
         requires value_len { length value.now < limit_of kind }
 
-        ensures frames { S.tells → OnOk result (frames_in self.new ≡ frames_in self.old ++ entry kind key.now value.now ∷ []) }
+        ensures frames { S.tells → OnOk result (frames_in self.new
+            ≡ frames_in self.old ++ entry kind key.now value.now ∷ []) }
         ensures number { IfOk result (λ n. n ≡ count_of self.old) }
         ensures place { S.tells → IfOk result (λ n. n ≡ length (frames_in self.old)) }
         ensures count { OnOk result (count_of self.new ≡ count_of self.old + 1) }
-        ensures unchanged { S.tells → IfErr result (λ e. (e ≡ LogErr.Failed) ⊎ (frames_in self.new ≡ frames_in self.old)) }
+        ensures unchanged { S.tells
+            → IfErr result (λ e. (e ≡ LogErr.Failed) ⊎ (frames_in self.new ≡ frames_in self.old)) }
         ensures same_count { OnErr result (count_of self.new ≡ count_of self.old) }
         ensures whole { WholeAfter result (is_whole self.old) (is_whole self.new) }
 
         ensures room { room_of self.new ≤ room_of self.old }
-        ensures limit { IsFullWhere result (room_for (entry kind key.now value.now)) (room_of self.old) }
-        ensures full { S.tells → IsFullWhere result (room_for (entry kind key.now value.now)) (store_limit - ends (frames_in self.old)) }
+        ensures limit { IsFullWhere result
+            (room_for (entry kind key.now value.now)) (room_of self.old) }
+        ensures full { S.tells → IsFullWhere result
+            (room_for (entry kind key.now value.now)) (store_limit - ends (frames_in self.old)) }
         ensures probes { probes_of self.new ≡ probes_of self.old }
         ensures answers { IfErr result IsAppendErr }
-        ensures cause { Counts is_fault (S.store_faults (device_of self.old)) (S.store_faults (device_of self.new)) result }
+        ensures cause { CountsIn self.old self.new result }
 
         // Whatever it answers, each image since the call began has the frames from before it, or these and the new one.
-        ensures images { S.tells → LeavesOnly S.moment S.images_since (device_of self.old) (device_of self.new)
+        ensures images { S.tells → LeavesOnlyIn self.old self.new
             (IsBeforeOrAfter (frames_in self.old) (entry kind key.now value.now)) }
-        ensures durable { S.tells → OnOk result (Only (S.content (device_of self.new)) (S.images (device_of self.new))) }
+        ensures durable { S.tells → OnOk result (IsDurable self.new) }
     {
         self.append_all(alloc, &[NewFrame { kind, key, value }])
     }
@@ -275,26 +311,31 @@ impl<S: StoreDevice> Log<S> {
         requires lengths { EachWithin (new_entries frames.now) }
         requires form { S.tells → all_formed (frames_in self.old) (new_entries frames.now) ≡ true }
 
-        ensures frames { S.tells → OnOk result (frames_in self.new ≡ frames_in self.old ++ new_entries frames.now) }
+        ensures frames { S.tells
+            → OnOk result (frames_in self.new ≡ frames_in self.old ++ new_entries frames.now) }
         // Whatever it answers, the frames are those before, or these and all the new ones.
-        ensures after { S.tells → (frames_in self.new ≡ frames_in self.old) ⊎ (frames_in self.new ≡ frames_in self.old ++ new_entries frames.now) }
-        ensures unchanged { S.tells → IfErr result (λ e. (e ≡ LogErr.Failed) ⊎ (frames_in self.new ≡ frames_in self.old)) }
+        ensures after { S.tells → (frames_in self.new ≡ frames_in self.old)
+            ⊎ (frames_in self.new ≡ frames_in self.old ++ new_entries frames.now) }
+        ensures unchanged { S.tells
+            → IfErr result (λ e. (e ≡ LogErr.Failed) ⊎ (frames_in self.new ≡ frames_in self.old)) }
         ensures number { IfOk result (λ n. n ≡ count_of self.old) }
         ensures count { OnOk result (count_of self.new ≡ count_of self.old + length frames.now) }
         ensures same_count { OnErr result (count_of self.new ≡ count_of self.old) }
         ensures whole { WholeAfter result (is_whole self.old) (is_whole self.new) }
 
         ensures room { room_of self.new ≤ room_of self.old }
-        ensures limit { IsFullWhere result (room_for_all (new_entries frames.now)) (room_of self.old) }
-        ensures full { S.tells → IsFullWhere result (room_for_all (new_entries frames.now)) (store_limit - ends (frames_in self.old)) }
+        ensures limit { IsFullWhere result
+            (room_for_all (new_entries frames.now)) (room_of self.old) }
+        ensures full { S.tells → IsFullWhere result
+            (room_for_all (new_entries frames.now)) (store_limit - ends (frames_in self.old)) }
         ensures probes { probes_of self.new ≡ probes_of self.old }
         ensures answers { IfErr result IsAppendErr }
-        ensures cause { Counts is_fault (S.store_faults (device_of self.old)) (S.store_faults (device_of self.new)) result }
+        ensures cause { CountsIn self.old self.new result }
 
         // Each image since the call began has the frames from before it, or these and all the new ones.
-        ensures images { S.tells → LeavesOnly S.moment S.images_since (device_of self.old) (device_of self.new)
+        ensures images { S.tells → LeavesOnlyIn self.old self.new
             (IsBeforeOrAll (frames_in self.old) (new_entries frames.now)) }
-        ensures durable { S.tells → OnOk result (Only (S.content (device_of self.new)) (S.images (device_of self.new))) }
+        ensures durable { S.tells → OnOk result (IsDurable self.new) }
     {
         let need = need_of_all(frames);
         let free = self.room();

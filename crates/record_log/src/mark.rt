@@ -48,7 +48,8 @@ impl LogMark {
         ensures seats { OnOk result (self.new.seats.items ≡ self.old.seats.items ++ seat ∷ []) }
         ensures count { OnOk result (vec_len self.new.seats ≡ vec_len self.old.seats + 1) }
         ensures end { OnOk result (self.new.end ≡ self.old.end + (1 + seat_size seat)) }
-        ensures contents { OnOk result (self.new.contents ≡ contents_after self.old.contents seat.kind) }
+        ensures contents { OnOk result (self.new.contents
+            ≡ contents_after self.old.contents seat.kind) }
         ensures generation { OnOk result (self.new.generation ≡ generation) }
         ensures capacity { vec_capacity self.old.seats ≤ vec_capacity self.new.seats }
         ensures succeeds { vec_len self.old.seats < vec_capacity self.old.seats → IsOk result }
@@ -65,11 +66,17 @@ impl LogMark {
     /// Takes in such a frame, as it was appended. There is room where it was taken before.
     pub fn learn(&mut self, kind: u8, key: &[u8], value: &[u8]) -> Result<(), AllocError>
         requires { self.old.end + (size (entry kind key.now value.now) + 1) < 2 ^ 64 - 1 }
-        ensures seats { OnOk result (self.new.seats.items ≡ self.old.seats.items ++ seat_of (self.old.end + 1) (entry kind key.now value.now) ∷ []) }
+        ensures seats { OnOk result (self.new.seats.items ≡ self.old.seats.items
+            ++ seat_of (self.old.end + 1) (entry kind key.now value.now) ∷ []) }
         ensures count { OnOk result (vec_len self.new.seats ≡ vec_len self.old.seats + 1) }
-        ensures end { OnOk result (self.new.end ≡ self.old.end + (size (entry kind key.now value.now) + 1)) }
-        ensures contents { OnOk result (self.new.contents ≡ contents_after self.old.contents kind) }
-        ensures generation { OnOk result ((contents : ℕ) → form contents (entry kind key.now value.now) ≡ true → self.new.generation ≡ generation_after self.old.generation (entry kind key.now value.now)) }
+        ensures end { OnOk result (self.new.end
+            ≡ self.old.end + (size (entry kind key.now value.now) + 1)) }
+        ensures contents { OnOk result (self.new.contents
+            ≡ contents_after self.old.contents kind) }
+        ensures generation { OnOk result ((contents : ℕ)
+            → form contents (entry kind key.now value.now) ≡ true
+            → self.new.generation
+            ≡ generation_after self.old.generation (entry kind key.now value.now)) }
         ensures capacity { vec_capacity self.old.seats ≤ vec_capacity self.new.seats }
         ensures succeeds { vec_len self.old.seats < vec_capacity self.old.seats → IsOk result }
     {
@@ -87,10 +94,15 @@ impl LogMark {
     /// Takes in such frames, one after another. There is room where it was taken before.
     pub fn learn_all(&mut self, frames: &[NewFrame]) -> Result<(), AllocError>
         requires { self.old.end + length (opened (new_entries frames.now)) < 2 ^ 64 - 1 }
-        ensures index { OnOk result ((es : List Entry) → IsIndexOf self.old es → all_formed es (new_entries frames.now) ≡ true → IsIndexOf self.new (es ++ new_entries frames.now)) }
-        ensures end { OnOk result (self.new.end ≡ self.old.end + length (opened (new_entries frames.now))) }
-        ensures count { OnOk result (vec_len self.new.seats ≡ vec_len self.old.seats + length frames.now) }
-        ensures succeeds { vec_len self.old.seats + length frames.now ≤ vec_capacity self.old.seats → IsOk result }
+        ensures index { OnOk result ((es : List Entry) → IsIndexOf self.old es
+            → all_formed es (new_entries frames.now) ≡ true
+            → IsIndexOf self.new (es ++ new_entries frames.now)) }
+        ensures end { OnOk result (self.new.end
+            ≡ self.old.end + length (opened (new_entries frames.now))) }
+        ensures count { OnOk result (vec_len self.new.seats
+            ≡ vec_len self.old.seats + length frames.now) }
+        ensures succeeds { vec_len self.old.seats + length frames.now ≤ vec_capacity self.old.seats
+            → IsOk result }
     {
         for frame in frames {
             self.learn(frame.kind, frame.key, frame.value)?;
@@ -101,7 +113,8 @@ impl LogMark {
 
 /// The generation behind a frame with that kind and key, where the store has that one before it.
 pub fn generation_in(kind: u8, key: &[u8], generation: u64) -> u64
-    ensures { (kind ≡ GENERATION → length key.now ≡ GENERATION_BYTES) → result ≡ generation_after generation (entry kind key.now []) }
+    ensures { (kind ≡ GENERATION → length key.now ≡ GENERATION_BYTES)
+        → result ≡ generation_after generation (entry kind key.now []) }
 {
     if kind != GENERATION {
         return generation;

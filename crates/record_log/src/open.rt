@@ -1,10 +1,9 @@
 // Opening a device as a log.
 ghost use Rattle.std.specs.Prelude.{◌==◌, [], get_or, ◌≡◌, ◌≤◌, ◌<◌, ◌^◌, ◌+◌, ◌-◌, List, ℕ, length, take, OnOk, IfOk, IfErr};
 ghost use Rattle.std.specs.Str.{bytes_eq};
-ghost use Rattle.rel_path.specs.Causes.{Counts};
 ghost use Rattle.store_dev.specs.Device.{Only, OnlyReads, LeavesOnly};
 ghost use Rattle.record_log.specs.Frames.{frames_of, reading, magic, IsOpenedAs, IsSound, ReadsAsOneOf, ReadsAsOneOrNone};
-ghost use Rattle.record_log.specs.Answers.{is_fault, IsOpenErr, IsReadErr, IsFaultOf};
+ghost use Rattle.record_log.specs.Answers.{Counted, IsOpenErr, IsReadErr, IsFaultOf};
 ghost use Rattle.record_log.specs.Kept.{Kept, IsMarkOf};
 
 use crate::LogErr;
@@ -27,7 +26,7 @@ fn settle<S: StoreDevice>(device: &mut S) -> Result<u64, LogErr>
     ensures durable { S.tells → OnOk result (Only (S.content device.old) (S.images device.new)) }
     ensures reads { OnlyReads S.content S.images S.moment S.images_since device.old device.new }
     ensures answers { IfErr result IsReadErr }
-    ensures cause { Counts is_fault (S.store_faults device.old) (S.store_faults device.new) result }
+    ensures cause { Counted (S.store_faults device.old) (S.store_faults device.new) result }
 {
     device.sync()?;
     Ok(device.len()?)
@@ -36,31 +35,36 @@ fn settle<S: StoreDevice>(device: &mut S) -> Result<u64, LogErr>
 /// Whether the device begins as a store does.
 fn has_magic<S: StoreDevice>(device: &mut S) -> Result<bool, LogErr>
     requires { S.tells → 9 < length (S.content device.old) }
-    ensures value { S.tells → IfOk result (λ b. b ≡ bytes_eq (take 8 (S.content device.old)) magic) }
+    ensures value { S.tells
+        → IfOk result (λ b. b ≡ bytes_eq (take 8 (S.content device.old)) magic) }
     ensures reads { OnlyReads S.content S.images S.moment S.images_since device.old device.new }
     ensures answers { IfErr result IsReadErr }
-    ensures cause { Counts is_fault (S.store_faults device.old) (S.store_faults device.new) result }
+    ensures cause { Counted (S.store_faults device.old) (S.store_faults device.new) result }
 {
     let mut front = [0; 8];
     device.read_at(0, &mut front)?;
     Ok(front.as_slice() == MAGIC.as_slice())
 }
 
-/// Goes on from what is known of the frames of a device to all of them, and writes an empty store where there are at most nine bytes. It syncs first, since
-/// before that a crash may leave less than what is read.
+/// Goes on from what is known of the frames of a device to all of them, and writes an empty store where there are at
+/// most nine bytes. It syncs first, since before that a crash may leave less than what is read.
 pub fn start<S: StoreDevice>(
     alloc: Global,
     device: &mut S,
     mark: LogMark,
 ) -> Result<LogMark, LogErr>
     requires { S.tells → IsMarkOf mark (frames_of (S.content device.old)) }
-    ensures kept { S.tells → IfOk result (λ mark. Kept (S.content device.new) (S.images device.new) mark) }
-    ensures opened { S.tells → OnOk result (IsOpenedAs (S.content device.old) (S.content device.new)) }
-    ensures same { S.tells → 9 < length (S.content device.old) → S.content device.new ≡ S.content device.old }
+    ensures kept { S.tells
+        → IfOk result (λ mark. Kept (S.content device.new) (S.images device.new) mark) }
+    ensures opened { S.tells
+        → OnOk result (IsOpenedAs (S.content device.old) (S.content device.new)) }
+    ensures same { S.tells → 9 < length (S.content device.old)
+        → S.content device.new ≡ S.content device.old }
     ensures fault { S.tells → IsFaultOf result (reading (S.content device.old)) }
-    ensures images { S.tells → LeavesOnly S.moment S.images_since device.old device.new (ReadsAsOneOf (S.images device.old)) }
+    ensures images { S.tells → LeavesOnly S.moment S.images_since device.old device.new
+        (ReadsAsOneOf (S.images device.old)) }
     ensures answers { IfErr result IsOpenErr }
-    ensures cause { Counts is_fault (S.store_faults device.old) (S.store_faults device.new) result }
+    ensures cause { Counted (S.store_faults device.old) (S.store_faults device.new) result }
 {
     let len = settle(device)?;
     if len <= GATE + 1 {
@@ -84,7 +88,7 @@ fn first_is_open<S: StoreDevice>(device: &mut S) -> Result<bool, LogErr>
     ensures value { S.tells → IfOk result (λ b. b ≡ (get_or (S.content device.old) GATE 0 == 1)) }
     ensures reads { OnlyReads S.content S.images S.moment S.images_since device.old device.new }
     ensures answers { IfErr result IsReadErr }
-    ensures cause { Counts is_fault (S.store_faults device.old) (S.store_faults device.new) result }
+    ensures cause { Counted (S.store_faults device.old) (S.store_faults device.new) result }
 {
     let mut gate = [0; 1];
     device.read_at(GATE, &mut gate)?;
@@ -95,11 +99,13 @@ fn first_is_open<S: StoreDevice>(device: &mut S) -> Result<bool, LogErr>
 /// nine bytes.
 pub fn clear<S: StoreDevice>(alloc: Global, device: &mut S) -> Result<LogMark, LogErr>
     requires { S.tells → (c : List ℕ) → S.images device.old c → IsSound c }
-    ensures kept { S.tells → IfOk result (λ mark. Kept (S.content device.new) (S.images device.new) mark) }
+    ensures kept { S.tells
+        → IfOk result (λ mark. Kept (S.content device.new) (S.images device.new) mark) }
     ensures none { S.tells → OnOk result (frames_of (S.content device.new) ≡ []) }
-    ensures images { S.tells → LeavesOnly S.moment S.images_since device.old device.new (ReadsAsOneOrNone (S.images device.old)) }
+    ensures images { S.tells → LeavesOnly S.moment S.images_since device.old device.new
+        (ReadsAsOneOrNone (S.images device.old)) }
     ensures answers { IfErr result IsReadErr }
-    ensures cause { Counts is_fault (S.store_faults device.old) (S.store_faults device.new) result }
+    ensures cause { Counted (S.store_faults device.old) (S.store_faults device.new) result }
 {
     let len = settle(device)?;
     if len <= GATE + 1 {

@@ -1,11 +1,10 @@
 // Going over the frames of a device.
 ghost use Rattle.std.specs.Prelude.{◌≡◌, ◌≤◌, ◌<◌, ◌^◌, ◌+◌, ◌-◌, List, ℕ, true, [], length, take, drop, OnOk, IfOk, IfErr};
-ghost use Rattle.rel_path.specs.Causes.{Counts};
 ghost use Rattle.store_dev.specs.Device.{OnlyReads};
 ghost use Rattle.record_log.specs.Kinds.{Entry, lens_fit, value_fits, generation_after};
 ghost use Rattle.record_log.specs.Frames.{frames_of, reading, AtRest};
 ghost use Rattle.record_log.specs.Seats.{IsSeatOf};
-ghost use Rattle.record_log.specs.Answers.{is_fault, IsOpenErr, IsReadErr, IsFaultOf, entry_of};
+ghost use Rattle.record_log.specs.Answers.{Counted, IsOpenErr, IsReadErr, IsFaultOf, entry_of};
 ghost use Rattle.record_log.specs.Kept.{IsIndex, IsIndexOf};
 
 use crate::LogErr;
@@ -31,11 +30,13 @@ pub fn index_of<S: StoreDevice>(
     requires long { 9 < len }
     requires len { S.tells → len ≡ length (S.content device.old) }
     requires known { S.tells → (es : List Entry) × IsIndex (S.content device.old) es mark }
-    ensures found { S.tells → IfOk result (λ mark. AtRest (S.content device.old) (frames_of (S.content device.old)) mark.end × IsIndexOf mark (frames_of (S.content device.old))) }
+    ensures found { S.tells → IfOk result (λ mark.
+        AtRest (S.content device.old) (frames_of (S.content device.old)) mark.end
+        × IsIndexOf mark (frames_of (S.content device.old))) }
     ensures fault { S.tells → IsFaultOf result (reading (S.content device.old)) }
     ensures reads { OnlyReads S.content S.images S.moment S.images_since device.old device.new }
     ensures answers { IfErr result IsOpenErr }
-    ensures cause { Counts is_fault (S.store_faults device.old) (S.store_faults device.new) result }
+    ensures cause { Counted (S.store_faults device.old) (S.store_faults device.new) result }
 {
     let mut mark = mark;
     let mut window = Window::new(alloc)?;
@@ -61,10 +62,11 @@ fn is_formed<S: StoreDevice>(
     contents: u64,
 ) -> Result<bool, LogErr>
     requires { S.tells → (e : Entry) × IsSeatOf (S.content device.old) seat e }
-    ensures value { S.tells → (e : Entry) → IsSeatOf (S.content device.old) seat e → IfOk result (λ b. b ≡ value_fits contents e.kind e.value) }
+    ensures value { S.tells → (e : Entry) → IsSeatOf (S.content device.old) seat e
+        → IfOk result (λ b. b ≡ value_fits contents e.kind e.value) }
     ensures reads { OnlyReads S.content S.images S.moment S.images_since device.old device.new }
     ensures answers { IfErr result IsReadErr }
-    ensures cause { Counts is_fault (S.store_faults device.old) (S.store_faults device.new) result }
+    ensures cause { Counted (S.store_faults device.old) (S.store_faults device.new) result }
 {
     if !holds_record(seat.kind) {
         return Ok(true);
@@ -81,10 +83,11 @@ fn generation_behind<S: StoreDevice>(
 ) -> Result<u64, LogErr>
     requires lens { lens_fit seat.kind seat.key_len seat.value_len ≡ true }
     requires seat { S.tells → (e : Entry) × IsSeatOf (S.content device.old) seat e }
-    ensures value { S.tells → (e : Entry) → IsSeatOf (S.content device.old) seat e → IfOk result (λ n. n ≡ generation_after generation e) }
+    ensures value { S.tells → (e : Entry) → IsSeatOf (S.content device.old) seat e
+        → IfOk result (λ n. n ≡ generation_after generation e) }
     ensures reads { OnlyReads S.content S.images S.moment S.images_since device.old device.new }
     ensures answers { IfErr result IsReadErr }
-    ensures cause { Counts is_fault (S.store_faults device.old) (S.store_faults device.new) result }
+    ensures cause { Counted (S.store_faults device.old) (S.store_faults device.new) result }
 {
     if seat.kind != GENERATION {
         return Ok(generation);
@@ -101,10 +104,11 @@ pub fn read_frame<S: StoreDevice>(
     seat: Seat,
 ) -> Result<Frame, LogErr>
     requires { S.tells → (e : Entry) × IsSeatOf (S.content device.old) seat e }
-    ensures frame { S.tells → (e : Entry) → IsSeatOf (S.content device.old) seat e → IfOk result (λ f. entry_of f ≡ e) }
+    ensures frame { S.tells → (e : Entry) → IsSeatOf (S.content device.old) seat e
+        → IfOk result (λ f. entry_of f ≡ e) }
     ensures reads { OnlyReads S.content S.images S.moment S.images_since device.old device.new }
     ensures answers { IfErr result IsReadErr }
-    ensures cause { Counts is_fault (S.store_faults device.old) (S.store_faults device.new) result }
+    ensures cause { Counted (S.store_faults device.old) (S.store_faults device.new) result }
 {
     let key = part_at(alloc, device, seat.key())?;
     let value = part_at(alloc, device, seat.value())?;
@@ -118,10 +122,11 @@ pub fn read_frame<S: StoreDevice>(
 /// The bytes of a range.
 fn part_at<S: StoreDevice>(alloc: Global, device: &mut S, span: Span) -> Result<Vec<u8>, LogErr>
     requires { S.tells → span.at + span.len ≤ length (S.content device.old) }
-    ensures value { S.tells → IfOk result (λ v. v.items ≡ take span.len (drop span.at (S.content device.old))) }
+    ensures value { S.tells
+        → IfOk result (λ v. v.items ≡ take span.len (drop span.at (S.content device.old))) }
     ensures reads { OnlyReads S.content S.images S.moment S.images_since device.old device.new }
     ensures answers { IfErr result IsReadErr }
-    ensures cause { Counts is_fault (S.store_faults device.old) (S.store_faults device.new) result }
+    ensures cause { Counted (S.store_faults device.old) (S.store_faults device.new) result }
 {
     let mut part = vec![in alloc; 0; span.len as usize]?;
     device.read_at(span.at, part.as_mut_slice())?;

@@ -45,8 +45,10 @@ impl Seat {
 /// where no frame with a gate behind it fits there, or a length is none that its kind may have.
 pub fn seat_at(head: &[u8], at: u64, room: u64) -> Option<Seat>
     requires { min LONG_HEAD room ≤ length head.now }
-    ensures some { IfSome result (λ seat. (bytes : List ℕ) → IsFront head.now bytes at room → IsLaid bytes seat) }
-    ensures none { IfNone result ((before : List Entry) (bytes : List ℕ) → IsFront head.now bytes at room → frame_at before (drop at bytes) ≡ None) }
+    ensures some { IfSome result (λ seat.
+        (bytes : List ℕ) → IsFront head.now bytes at room → IsLaid bytes seat) }
+    ensures none { IfNone result ((before : List Entry) (bytes : List ℕ)
+        → IsFront head.now bytes at room → frame_at before (drop at bytes) ≡ None) }
     ensures place { IfSome result (λ seat. seat.at ≡ at) }
     ensures lens { IfSome result (λ seat. lens_fit seat.kind seat.key_len seat.value_len ≡ true) }
     ensures inside { IfSome result (λ seat. seat_size seat < room) }

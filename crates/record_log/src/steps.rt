@@ -20,10 +20,16 @@ pub fn put_synced<S: StoreDevice>(
 ) -> Result<(), StoreErr>
     requires place { S.tells → at ≤ length (S.content device.old) }
     requires end { at + length bytes.now ≤ 2 ^ 62 }
-    ensures written { S.tells → OnOk result (Holds (S.content device.old) at bytes.now (S.content device.new) × Only (S.content device.new) (S.images device.new)) }
-    ensures memory { IsErrOf result StoreErr.OutOfMemory → SameWith (S.content device.old) (S.content device.new) (S.images device.old) (S.images device.new) }
-    ensures time { Elapses (S.moment device.old) (S.moment device.new) (S.images_since device.old) (S.images_since device.new) (After (Torn at (length bytes.now)) (S.images device.old)) }
-    ensures cause { Counts is_fault (S.store_faults device.old) (S.store_faults device.new) result }
+    ensures written { S.tells → OnOk result (
+        Holds (S.content device.old) at bytes.now (S.content device.new)
+        × Only (S.content device.new) (S.images device.new)) }
+    ensures memory { IsErrOf result StoreErr.OutOfMemory
+        → SameWith (S.content device.old) (S.content device.new)
+        (S.images device.old) (S.images device.new) }
+    ensures time { Elapses (S.moment device.old) (S.moment device.new) (S.images_since device.old)
+        (S.images_since device.new) (After (Torn at (length bytes.now)) (S.images device.old)) }
+    ensures cause { Counts is_fault
+        (S.store_faults device.old) (S.store_faults device.new) result }
 {
     device.write_at(alloc, at, bytes)?;
     device.sync()
@@ -37,17 +43,25 @@ pub fn write_frames<S: StoreDevice>(
     frames: &[NewFrame],
 ) -> Result<(), StoreErr>
     requires some { 0 < length frames.now }
-    requires form { S.tells → all_formed (frames_of (S.content device.old)) (new_entries frames.now) ≡ true }
+    requires form { S.tells
+        → all_formed (frames_of (S.content device.old)) (new_entries frames.now) ≡ true }
     requires short { EachWithin (new_entries frames.now) }
     requires room { end + (length (opened (new_entries frames.now)) + 1) ≤ 2 ^ 62 }
-    requires rest { S.tells → AtRest (S.content device.old) (frames_of (S.content device.old)) end }
+    requires rest { S.tells
+        → AtRest (S.content device.old) (frames_of (S.content device.old)) end }
     requires durable { S.tells → Only (S.content device.old) (S.images device.old) }
-    ensures written { S.tells → OnOk result (AtRest (S.content device.new) (frames_of (S.content device.old) ++ new_entries frames.now) (end + length (opened (new_entries frames.now)))) }
-    ensures memory { S.tells → IsErrOf result StoreErr.OutOfMemory → AtRest (S.content device.new) (frames_of (S.content device.old)) end }
+    ensures written { S.tells → OnOk result (AtRest (S.content device.new)
+        (frames_of (S.content device.old) ++ new_entries frames.now)
+        (end + length (opened (new_entries frames.now)))) }
+    ensures memory { S.tells → IsErrOf result StoreErr.OutOfMemory
+        → AtRest (S.content device.new) (frames_of (S.content device.old)) end }
     ensures durable { S.tells → OnOk result (Only (S.content device.new) (S.images device.new)) }
-    ensures memory_durable { S.tells → IsErrOf result StoreErr.OutOfMemory → Only (S.content device.new) (S.images device.new) }
-    ensures images { S.tells → LeavesOnly S.moment S.images_since device.old device.new (IsBeforeOrAll (frames_of (S.content device.old)) (new_entries frames.now)) }
-    ensures cause { Counts is_fault (S.store_faults device.old) (S.store_faults device.new) result }
+    ensures memory_durable { S.tells → IsErrOf result StoreErr.OutOfMemory
+        → Only (S.content device.new) (S.images device.new) }
+    ensures images { S.tells → LeavesOnly S.moment S.images_since device.old device.new
+        (IsBeforeOrAll (frames_of (S.content device.old)) (new_entries frames.now)) }
+    ensures cause { Counts is_fault
+        (S.store_faults device.old) (S.store_faults device.new) result }
 {
     let bytes = opened_bytes(alloc, frames)?;
     let body = &bytes.as_slice()[1..];

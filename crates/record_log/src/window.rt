@@ -1,9 +1,8 @@
 // A device read in blocks.
 ghost use Rattle.std.specs.Prelude.{true, ◌≡◌, ◌≤◌, ◌<◌, ◌↔◌, ◌+◌, ◌-◌, ◌^◌, List, ℕ, min, length, take, drop, get_or, IfOk, IfErr, OnOk, IfSome, IfNone, IsTrue};
-ghost use Rattle.rel_path.specs.Causes.{Counts};
 ghost use Rattle.store_dev.specs.Device.{OnlyReads};
 ghost use Rattle.record_log.specs.Kinds.{Entry, lens_fit, frame_at};
-ghost use Rattle.record_log.specs.Answers.{is_fault, IsReadErr};
+ghost use Rattle.record_log.specs.Answers.{Counted, IsReadErr};
 
 use crate::LogErr;
 use crate::kind::{LONG_HEAD, OPEN};
@@ -41,9 +40,10 @@ impl Window {
         requires shows { S.tells → Shows (S.content device.old) self.old }
         ensures shows { S.tells → OnOk result (Shows (S.content device.old) self.new) }
         ensures covers { OnOk result (Covers self.new gate (min (1 + LONG_HEAD) (len - gate))) }
-        ensures reads { OnlyReads S.content S.images S.moment S.images_since device.old device.new }
+        ensures reads { OnlyReads S.content S.images S.moment S.images_since
+            device.old device.new }
         ensures answers { IfErr result IsReadErr }
-        ensures cause { Counts is_fault (S.store_faults device.old) (S.store_faults device.new) result }
+        ensures cause { Counted (S.store_faults device.old) (S.store_faults device.new) result }
     {
         let left = len - gate;
         let end = self.at.saturating_add(self.bytes.len() as u64);
@@ -68,12 +68,14 @@ impl Window {
         requires gate { gate < len }
         requires len { S.tells → len ≡ length (S.content device.old) }
         requires shows { S.tells → Shows (S.content device.old) self.old }
-        ensures value { S.tells → IfOk result (λ b. IsTrue b ↔ (get_or (S.content device.old) gate 0 ≡ 1)) }
+        ensures value { S.tells
+            → IfOk result (λ b. IsTrue b ↔ (get_or (S.content device.old) gate 0 ≡ 1)) }
         ensures shows { S.tells → OnOk result (Shows (S.content device.old) self.new) }
         ensures covers { OnOk result (Covers self.new gate (min (1 + LONG_HEAD) (len - gate))) }
-        ensures reads { OnlyReads S.content S.images S.moment S.images_since device.old device.new }
+        ensures reads { OnlyReads S.content S.images S.moment S.images_since
+            device.old device.new }
         ensures answers { IfErr result IsReadErr }
-        ensures cause { Counts is_fault (S.store_faults device.old) (S.store_faults device.new) result }
+        ensures cause { Counted (S.store_faults device.old) (S.store_faults device.new) result }
     {
         self.show(device, gate, len)?;
         Ok(self.from(gate)[0] == OPEN)
@@ -91,10 +93,14 @@ impl Window {
     pub fn seat_behind(&self, gate: u64, len: u64) -> Option<Seat>
         requires gate { gate < len }
         requires covers { Covers self.now gate (min (1 + LONG_HEAD) (len - gate)) }
-        ensures some { IfSome result (λ seat. (content : List ℕ) → Shows content self.now → len ≡ length content → IsLaid content seat) }
-        ensures none { IfNone result ((before : List Entry) (content : List ℕ) → Shows content self.now → len ≡ length content → frame_at before (drop (gate + 1) content) ≡ None) }
+        ensures some { IfSome result (λ seat. (content : List ℕ) → Shows content self.now
+            → len ≡ length content → IsLaid content seat) }
+        ensures none { IfNone result ((before : List Entry) (content : List ℕ)
+            → Shows content self.now → len ≡ length content
+            → frame_at before (drop (gate + 1) content) ≡ None) }
         ensures place { IfSome result (λ seat. seat.at ≡ gate + 1) }
-        ensures lens { IfSome result (λ seat. lens_fit seat.kind seat.key_len seat.value_len ≡ true) }
+        ensures lens { IfSome result (λ seat.
+            lens_fit seat.kind seat.key_len seat.value_len ≡ true) }
         ensures inside { IfSome result (λ seat. gate + (1 + seat_size seat) < len) }
     {
         seat_at(self.from(gate + 1), gate + 1, len - gate - 1)

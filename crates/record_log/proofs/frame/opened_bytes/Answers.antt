@@ -7,7 +7,10 @@ use Rattle.record_log.specs.Kinds.{text}
 use Rattle.record_log.proofs.Batch.{each_at, opened_one}
 use Rattle.record_log.proofs.frame.opened_bytes.Goals as goal
 
-one_more : (frames : List NewFrame) (i : ℕ) (d : NewFrame) (old mid new : List ℕ) → i < length frames → old ≡ opened (new_entries (take i frames)) → mid ≡ old ++ 1 ∷ [] → new ≡ mid ++ text (new_entry (get_or frames i d)) → new ≡ opened (new_entries (take (i + 1) frames))
+one_more : (frames : List NewFrame) (i : ℕ) (d : NewFrame) (old mid new : List ℕ)
+    → i < length frames → old ≡ opened (new_entries (take i frames)) → mid ≡ old ++ 1 ∷ []
+    → new ≡ mid ++ text (new_entry (get_or frames i d))
+    → new ≡ opened (new_entries (take (i + 1) frames))
 one_more frames i d old mid new lt was gate body =
     body ∙ (λ j. (gate ∙ ap (λ (l : List ℕ). l ++ 1 ∷ []) was) j ++ text (new_entry (get_or frames i d)))
     ∙ sym (opened_one (new_entries (take i frames)) (new_entry (get_or frames i d)))

@@ -58,10 +58,12 @@ returns-clause-kept g c told =
     subst (λ (l : List ℕ). Kept l (s.images c.index_of.new.device) c.in_ok-mark.mark) (sym same) (kept_found was (s.images c.index_of.new.device) c.in_ok-mark.mark found.0 found.1 only)
 
 -- where the mark is one of the device's first frames
-marked_in : (bytes old : List ℕ) (mark : LogMark) → AreBytes bytes → 9 < length old → bytes ≡ old → bytes_eq (take 8 bytes) magic ≡ true → IsMarkOf mark (frames_of old) → Marked bytes mark
+marked_in : (bytes old : List ℕ) (mark : LogMark) → AreBytes bytes → 9 < length old → bytes ≡ old
+    → bytes_eq (take 8 bytes) magic ≡ true → IsMarkOf mark (frames_of old) → Marked bytes mark
 marked_in bytes old mark fits long same good x = marked_index bytes mark fits (omega (arith, long, ap length same)) good (subst (λ (l : List ℕ). IsMarkOf mark (frames_of l)) (sym same) x)
 
-known : (bytes : List ℕ) (mark : LogMark) → Marked bytes mark → (es : List Entry) × IsIndex bytes es mark
+known : (bytes : List ℕ) (mark : LogMark) → Marked bytes mark
+    → (es : List Entry) × IsIndex bytes es mark
 known bytes mark x = (x.es, x.index)
 
 pub index_of-requires-clause-known : goal.index_of-requires-clause-known

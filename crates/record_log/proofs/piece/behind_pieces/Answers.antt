@@ -2,7 +2,8 @@ use Rattle.std.proofs.Common.{rules, ◌≡◌, ◌-◌, [], ◌∷◌, ◌++◌
 use Rattle.std.specs.Option.{option_map}
 use Rattle.codes.specs.Reading.{items_step}
 use Rattle.record_log.specs.Pieces.{width, read_piece, behind, all_below, is_below}
-use Rattle.record_log.proofs.Records.{passed, pieces_is, pieces_none, all_below_push, stuck, ended}
+use Rattle.record_log.specs.Records.{all_below_push}
+use Rattle.record_log.proofs.Records.{passed, pieces_is, pieces_none, stuck, ended}
 use Rattle.record_log.proofs.piece.behind_pieces.Goals as goal
 
 pub returns-in_err-count : goal.returns-in_err-count

@@ -15,7 +15,11 @@ use Rattle.record_log.proofs.scan.index_of.Goals as goal
 
 -- three calls that only read, behind others
 module _ {D : Type 0} (content : D → List ℕ) (images : D → List ℕ → Type 0) (moment : D → ℕ) (images_since : D → ℕ → List ℕ → Type 0) where
-  all_read : (a b d e f : D) → OnlyReads content images moment images_since a b → OnlyReads content images moment images_since b d → OnlyReads content images moment images_since d e → OnlyReads content images moment images_since e f → OnlyReads content images moment images_since a f
+  all_read : (a b d e f : D) → OnlyReads content images moment images_since a b
+      → OnlyReads content images moment images_since b d
+      → OnlyReads content images moment images_since d e
+      → OnlyReads content images moment images_since e f
+      → OnlyReads content images moment images_since a f
   all_read a b d e f p q r s = reads_both content images moment images_since a e f (reads_both content images moment images_since a d e (reads_both content images moment images_since a b d p q) r) s
 
 pub returns-in_default-clause-fault : goal.returns-in_default-clause-fault

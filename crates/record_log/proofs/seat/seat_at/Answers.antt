@@ -13,14 +13,17 @@ if_none None P p = p
 if_none (Some x) P p = tt
 
 -- by the kind's width
-by_kind : (long : Bool) (kind : ℕ) (bytes : List ℕ) (t : Taken ℕ) → long ≡ is_long kind → t ≡ read_number (width long) bytes → read_number (width_of kind) bytes ≡ t
+by_kind : (long : Bool) (kind : ℕ) (bytes : List ℕ) (t : Taken ℕ) → long ≡ is_long kind
+    → t ≡ read_number (width long) bytes → read_number (width_of kind) bytes ≡ t
 by_kind long kind bytes t is read = ap (λ (b : Bool). read_number (width b) bytes) (sym is) ∙ sym read
 
-limit_by : (long : Bool) (kind n : ℕ) → long ≡ is_long kind → n < cond long (2 ^ 64) (2 ^ 32) → n < limit_of kind
+limit_by : (long : Bool) (kind n : ℕ) → long ≡ is_long kind → n < cond long (2 ^ 64) (2 ^ 32)
+    → n < limit_of kind
 limit_by long kind n is short = subst (λ (b : Bool). n < cond b (2 ^ 64) (2 ^ 32)) is short
 
 -- the head is the front of the bytes
-front_of : (head bytes tail : List ℕ) (kind at room : ℕ) → IsFront head bytes at room → head ≡ kind ∷ tail → kind ∷ tail ≡ take (length (kind ∷ tail)) (drop at bytes)
+front_of : (head bytes tail : List ℕ) (kind at room : ℕ) → IsFront head bytes at room
+    → head ≡ kind ∷ tail → kind ∷ tail ≡ take (length (kind ∷ tail)) (drop at bytes)
 front_of head bytes tail kind at room x is = sym is ∙ x.front ∙ ap (λ (l : List ℕ). take (length l) (drop at bytes)) is
 
 pub returns-in_err-kind-clause-none : goal.returns-in_err-kind-clause-none

@@ -28,7 +28,8 @@ invariant_of-self-in-Ok g c = record {
   kept = λ whole told. now told;
 }
   where
-    now : g.S.StoreDevice.tells → Kept (g.S.StoreDevice.content c.write_frames.new.device) (g.S.StoreDevice.images c.write_frames.new.device) c.learn_all.new.self
+    now : g.S.StoreDevice.tells
+        → Kept (g.S.StoreDevice.content c.write_frames.new.device) (g.S.StoreDevice.images c.write_frames.new.device) c.learn_all.new.self
     now told =
         let log = c.args.self.now in
         let all = new_entries c.args.frames.now in

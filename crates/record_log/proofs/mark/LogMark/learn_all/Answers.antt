@@ -10,10 +10,17 @@ use Rattle.record_log.proofs.Appending.{index_push}
 use Rattle.record_log.proofs.Batch.{entries_more, opened_more, opened_take, formed_at, form_of}
 use Rattle.record_log.proofs.mark.LogMark.learn_all.Goals as goal
 
-fits : (frames : List NewFrame) (i : ℕ) (d : NewFrame) (start end : ℕ) → i < length frames → start + length (opened (new_entries frames)) < 2 ^ 64 - 1 → end ≡ start + length (opened (new_entries (take i frames))) → end + (size (new_entry (get_or frames i d)) + 1) < 2 ^ 64 - 1
+fits : (frames : List NewFrame) (i : ℕ) (d : NewFrame) (start end : ℕ) → i < length frames
+    → start + length (opened (new_entries frames)) < 2 ^ 64 - 1
+    → end ≡ start + length (opened (new_entries (take i frames)))
+    → end + (size (new_entry (get_or frames i d)) + 1) < 2 ^ 64 - 1
 fits frames i d start end lt room is = omega (arith, room, is, opened_more frames i d lt, opened_take frames (i + 1))
 
-grown : (frames : List NewFrame) (i : ℕ) (d : NewFrame) (mark next : LogMark) (es : List Entry) → i < length frames → all_formed es (new_entries frames) ≡ true → IsIndexOf mark (es ++ new_entries (take i frames)) → next.seats.items ≡ mark.seats.items ++ seat_of (mark.end + 1) (new_entry (get_or frames i d)) ∷ [] → next.end ≡ mark.end + (size (new_entry (get_or frames i d)) + 1)
+grown : (frames : List NewFrame) (i : ℕ) (d : NewFrame) (mark next : LogMark) (es : List Entry)
+    → i < length frames → all_formed es (new_entries frames) ≡ true
+    → IsIndexOf mark (es ++ new_entries (take i frames))
+    → next.seats.items ≡ mark.seats.items ++ seat_of (mark.end + 1) (new_entry (get_or frames i d)) ∷ []
+    → next.end ≡ mark.end + (size (new_entry (get_or frames i d)) + 1)
     → next.contents ≡ contents_after mark.contents (new_entry (get_or frames i d)).kind → ((contents : ℕ) → form contents (new_entry (get_or frames i d)) ≡ true → next.generation ≡ generation_after mark.generation (new_entry (get_or frames i d))) → IsIndexOf next (es ++ new_entries (take (i + 1) frames))
 grown frames i d mark next es lt formed x seats end contents generation =
     let e = new_entry (get_or frames i d) in
@@ -21,7 +28,10 @@ grown frames i d mark next es lt formed x seats end contents generation =
     let all = index_push mark next before e x seats (end ∙ omega arith) contents (generation (blobs before) (form_of before e (formed_at frames es i d formed lt))) in
     subst (λ (l : List Entry). IsIndexOf next l) (append_assoc es (new_entries (take i frames)) (e ∷ []) ∙ ap (λ (l : List Entry). es ++ l) (sym (entries_more frames i d lt))) all
 
-ended : (frames : List NewFrame) (i : ℕ) (d : NewFrame) (start end next : ℕ) → i < length frames → end ≡ start + length (opened (new_entries (take i frames))) → next ≡ end + (size (new_entry (get_or frames i d)) + 1) → next ≡ start + length (opened (new_entries (take (i + 1) frames)))
+ended : (frames : List NewFrame) (i : ℕ) (d : NewFrame) (start end next : ℕ) → i < length frames
+    → end ≡ start + length (opened (new_entries (take i frames)))
+    → next ≡ end + (size (new_entry (get_or frames i d)) + 1)
+    → next ≡ start + length (opened (new_entries (take (i + 1) frames)))
 ended frames i d start end next lt is more = omega (arith, is, more, opened_more frames i d lt)
 
 pub learn-requires : goal.learn-requires

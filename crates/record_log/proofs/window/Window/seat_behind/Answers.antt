@@ -8,7 +8,8 @@ use Rattle.record_log.specs.Seats.{IsFront}
 use Rattle.record_log.proofs.window.Window.seat_behind.Goals as goal
 
 -- what is shown from a place on is the front of what the device holds there
-shown : (bytes content : List ℕ) (at k n : ℕ) → k ≤ n → bytes ≡ take n (drop at content) → drop k bytes ≡ take (n - k) (drop (k + at) content)
+shown : (bytes content : List ℕ) (at k n : ℕ) → k ≤ n → bytes ≡ take n (drop at content)
+    → drop k bytes ≡ take (n - k) (drop (k + at) content)
 shown bytes content at k n le is =
     let parts : n ≡ k + (n - k) = omega (arith, le) in
     ap (drop k) (is ∙ ap (λ (m : ℕ). take m (drop at content)) parts) ∙ drop-take k (n - k) (drop at content) ∙ ap (take (n - k)) (drop-drop k at content ∙ ap (λ (m : ℕ). drop m content) (omega arith))
@@ -18,7 +19,10 @@ none_then None P Q p to = to p
 none_then (Some x) P Q p to = tt
 
 -- what is shown behind the gate
-head_shown : (window : Window) (content head : List ℕ) (gate len : ℕ) → Covers window gate (min 18 (len - gate)) → gate < len → head ≡ drop (gate + 1 - window.at) window.bytes.items → Shows content window → len ≡ length content → IsFront head content (gate + 1) (len - gate - 1)
+head_shown : (window : Window) (content head : List ℕ) (gate len : ℕ)
+    → Covers window gate (min 18 (len - gate)) → gate < len
+    → head ≡ drop (gate + 1 - window.at) window.bytes.items → Shows content window
+    → len ≡ length content → IsFront head content (gate + 1) (len - gate - 1)
 head_shown window content head gate len covers inside is shows whole =
     let k = gate + 1 - window.at in
     let at : k + window.at ≡ gate + 1 = omega (arith, covers.from) in
