@@ -1,3 +1,11 @@
-mod Carry
-mod Search
-mod Fingerprints
+pub mod KeyLaws
+pub mod Places
+pub mod IndexLaws
+pub mod Carry
+pub mod Search
+pub mod Given
+pub mod Looking
+pub mod Shown
+pub mod Fits
+pub mod After
+pub mod Both

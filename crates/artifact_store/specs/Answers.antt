@@ -1,5 +1,5 @@
 -- When a store answers what.
-use Rattle.std.specs.Prelude.{◌≡◌, ◌<◌, ◌≤◌, ℕ, Bool, true, false, Result, Err}
+use Rattle.std.specs.Prelude.{◌≡◌, Bool, true, false, Result, Err}
 use Rattle.record_log.specs.Frames.{Fault}
 use Rattle.record_log.specs.Frames.Fault.{NotAStore as NoStore, Damaged as DamagedAt}
 use Rattle.record_log.specs.declared.error.LogErr.{LogErr}
@@ -31,12 +31,13 @@ IsFaultOf NotAStore read = read ≡ Err NoStore
 IsFaultOf (Damaged at) read = read ≡ Err (DamagedAt at)
 IsFaultOf _ read = Unit {0}
 
--- after a fault the store is not whole, and every other answer leaves that as it is
-abbrev pub WholeAfter : {T : Type 0} → Result T CacheErr → Bool → Bool → Type 0
-WholeAfter (Err cache.Failed) before now = now ≡ false
-WholeAfter _ before now = now ≡ before
+-- a cache's error at the opening; it is never full then
+abbrev pub reads_as : CacheErr → OpenErr
+reads_as cache.Failed = Failed
+reads_as _ = OutOfMemory
 
--- `Full` comes exactly where more is needed than is free
-abbrev pub IsFullWhere : {T : Type 0} → Result T CacheErr → ℕ → ℕ → Type 0
-IsFullWhere (Err cache.Full) need free = free < need
-IsFullWhere _ need free = need ≤ free
+-- the errors that come behind the opening of the log
+abbrev pub IsIndexErr : OpenErr → Type 0
+IsIndexErr Failed = Unit {0}
+IsIndexErr OutOfMemory = Unit {0}
+IsIndexErr _ = ⊥

@@ -1,5 +1,10 @@
 pub mod Pairs
-pub mod Prints
 pub mod Answers
+pub mod Lengths
+pub mod Keys
+pub mod Costs
+pub mod Index
+pub mod Outcomes
+pub mod Hits
 pub mod Store
 pub mod Laws

@@ -1,8 +1,9 @@
 // Why a device was not opened as a store.
 ghost use Rattle.std.specs.Prelude.{◌≡◌};
 ghost use Rattle.record_log.specs.Answers.{IsOpenErr};
-ghost use Rattle.artifact_store.specs.Answers.{opens_as};
+ghost use Rattle.artifact_store.specs.Answers.{opens_as, reads_as, IsIndexErr};
 
+use cache_api::CacheErr;
 use record_log::LogErr;
 use thiserror::Error;
 
@@ -33,5 +34,16 @@ pub(crate) fn open_err(fault: LogErr) -> OpenErr
         LogErr::Damaged { at } => OpenErr::Damaged { at },
         LogErr::Failed => OpenErr::Failed,
         LogErr::Full { .. } | LogErr::OutOfMemory => OpenErr::OutOfMemory,
+    }
+}
+
+/// What an opening answers where the frames of its log were not read.
+pub(crate) fn index_err(fault: CacheErr) -> OpenErr
+    ensures value { result ≡ reads_as fault }
+    ensures answers { IsIndexErr result }
+{
+    match fault {
+        CacheErr::Failed => OpenErr::Failed,
+        CacheErr::Full | CacheErr::OutOfMemory => OpenErr::OutOfMemory,
     }
 }

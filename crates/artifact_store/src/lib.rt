@@ -1,15 +1,22 @@
-//! A cache in a log: each pair is a frame of kind 1, its key whole and the text of its artifact.
+//! A cache in a log: contents once, a record a pair, and the fingerprints of the pairs' keys.
 //!
-//! [`Store`] opens a device as a log and is a [`Cache`](cache_api::Cache) over it. It keeps the fingerprints of the keys
-//! that it has read, so that a look-up reads no frame twice but those that may have its key. `specs/` says which pairs the
-//! bytes of a store stand for (`Pairs`), what their fingerprints are (`Prints`), what a store is to its callers (`Store`),
-//! and when it answers what (`Answers`).
+//! [`Store`] opens a device as a log and is a [`Cache`](cache_api::Cache) over it. It holds where each pair stands, how long
+//! its key is, and the fingerprints of the keys whose lengths are foreseen, so that a look-up reads only pairs that may
+//! have its key. `specs/` says which pairs the bytes of a store stand for (`Pairs`), what is kept of keys and frames
+//! (`Keys`, `Index`), how often a look-up may read (`Costs`), what becomes of pairs that are put (`Outcomes`), what a store
+//! is to its callers (`Store`), when it answers what (`Answers`), and what its images stand for (`Laws`).
 #![tactic(auto)]
 
+mod cache;
 mod error;
-mod frames;
-mod room;
+mod hits;
+mod index;
+mod keys;
+mod look;
+mod pairs;
+mod put;
 mod store;
 
 pub use error::OpenErr;
+pub use pair_reader::Lengths;
 pub use store::Store;

@@ -2,3 +2,5 @@ mod Paths
 mod Text
 mod Only
 mod Steps
+mod OnePut
+pub mod SoFar

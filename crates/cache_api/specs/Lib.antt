@@ -3,4 +3,8 @@ pub mod Artifacts
 pub mod Reading
 pub mod Found
 pub mod Pairs
+pub mod Keys
+pub mod Hits
+pub mod Moments
 pub mod Cache
+pub mod Calls

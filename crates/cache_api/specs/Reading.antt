@@ -41,7 +41,8 @@ ReadsBack read = (a : Artifact) → ArtifactFits a → read (artifact_text a) �
 
 -- what is read was written
 abbrev pub ReadsText : Reader → Type 0
-ReadsText read = (bytes : List ℕ) (a : Artifact) → AreBytes bytes → read bytes ≡ Some a → (bytes ≡ artifact_text a) × ArtifactFits a
+ReadsText read = (bytes : List ℕ) (a : Artifact) → AreBytes bytes → read bytes ≡ Some a
+    → (bytes ≡ artifact_text a) × ArtifactFits a
 
 -- from the text of an artifact nothing else is read
 abbrev pub ReadsOnly : Reader → Type 0

@@ -34,7 +34,8 @@ impl Artifact {
 /// A log and files, with nothing behind them.
 #[tactic(auto, unfolding(codes::specs::Codes::read_both, codes::specs::Codes::whole_of))]
 fn parts_of(alloc: Global, text: &[u8]) -> Result<Option<Artifact>, CacheErr>
-    ensures parts { IfOk result (λ o. found_as artifact o ≡ whole_of (read_both read_str read_files text.now)) }
+    ensures parts { IfOk result (λ o.
+        found_as artifact o ≡ whole_of (read_both read_str read_files text.now)) }
     ensures memory { OnlyMemory result }
 {
     let Some((log, start)) = str_at(text) else {
@@ -105,7 +106,7 @@ fn path_at(alloc: Global, bytes: &[u8]) -> Result<Option<(RelPath, &[u8])>, Cach
 }
 
 /// The path that a text writes, if it is UTF-8 and writes one.
-fn path_in(alloc: Global, text: &[u8]) -> Result<Option<RelPath>, CacheErr>
+pub fn path_in(alloc: Global, text: &[u8]) -> Result<Option<RelPath>, CacheErr>
     ensures path { IfOk result (λ o. o ≡ path_in text.now) }
     ensures memory { OnlyMemory result }
 {

@@ -16,7 +16,8 @@ impl Artifact {
     #[tactic(auto, unfolding(crate::specs::Artifacts::artifact_text, codes::specs::Codes::list))]
     pub fn text(&self, alloc: Global) -> Result<Bytes, CacheErr>
         ensures text { IfOk result (λ text. text ≡ artifact_text (artifact self.now)) }
-        ensures back { IfOk result (λ text. IsTrue (ascends self.now.files) → artifact_in text ≡ Some (artifact self.now)) }
+        ensures back { IfOk result (λ text.
+            IsTrue (ascends self.now.files) → artifact_in text ≡ Some (artifact self.now)) }
         ensures memory { OnlyMemory result }
     {
         let files = self.files.as_slice();

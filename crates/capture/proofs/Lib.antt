@@ -3,3 +3,4 @@ mod Puts
 mod Readings
 mod Takings
 mod Ascents
+mod HitFacts

@@ -16,6 +16,10 @@ use Rattle.tree_dev.specs.declared.tree.Found.{Found}
 use Rattle.tree_dev.specs.declared.tree.Found.TheVariants.{Absent, TooLong, Here}
 use Rattle.tree_walk.specs.Traversal.{Choice, Entering}
 
+-- none of these paths may change at any time
+abbrev pub NoneHeld : (Path → Bool) → (Path → Bool) → Type 0
+NoneHeld these held = (path : Path) → these path ≡ true → held path ≡ false
+
 -- all folders of the package but those, directly in its folder, that no task may declare
 abbrev pub package_enters : OutSet → Entering
 package_enters outs folder name = not (path_eq folder outs.folder && is_skipped name)
@@ -24,10 +28,12 @@ abbrev pub own_choice : OutSet → Choice
 own_choice outs = record { enters = package_enters outs; wants = takes outs }
 
 abbrev pub declared_choice : OutSet → Choice
-declared_choice outs = record { enters = package_enters outs; wants = λ path. takes outs path || shares outs path }
+declared_choice outs =
+    record { enters = package_enters outs; wants = λ path. takes outs path || shares outs path }
 
 -- owned paths in order; where the files are told, those that are there
-pub record ListsOwned (Tells : Type 0) (files : FileMap) (outs : OutSet) (paths : List Path) : Type 0 where
+pub record ListsOwned (Tells : Type 0) (files : FileMap) (outs : OutSet) (paths : List Path)
+    : Type 0 where
   pub ascend : IsStrictlySortedBy path_cmp paths
   pub taken : (path : Path) → is_among paths path ≡ true → takes outs path ≡ true
   pub exact : Tells → (path : Path) → is_among paths path ≡ (has files path && takes outs path)
@@ -44,10 +50,12 @@ pub record ReadOk (files : FileMap) (limit : ℕ) (paths : List Path) (got : Lis
   pub read : (path : Path) → file_at got path ≡ only_at paths files path
   pub fit : (path : Path) → is_among paths path ≡ true → fits limit (files path) ≡ true
 
-pub record ReadTooLarge (files : FileMap) (limit : ℕ) (paths : List Path) (large : Path) : Type 0 where
+pub record ReadTooLarge (files : FileMap) (limit : ℕ) (paths : List Path) (large : Path)
+    : Type 0 where
   pub there : is_among paths large ≡ true
   pub long : fits limit (files large) ≡ false
-  pub least : (path : Path) → is_among paths path ≡ true → path_cmp path large ≡ Less → fits limit (files path) ≡ true
+  pub least : (path : Path) → is_among paths path ≡ true → path_cmp path large ≡ Less
+      → fits limit (files path) ≡ true
 
 abbrev pub ReadsAll : FileMap → ℕ → List Path → Result (List File) CapErr → Type 0
 ReadsAll files limit paths (Ok read) = ReadOk files limit paths read
@@ -80,7 +88,8 @@ IsShared path OutOfMemory = Unit {0}
 abbrev pub declares : OutSet → Path → Bool
 declares outs path = takes outs path || shares outs path
 
-pub record ListsDeclared (Tells : Type 0) (files : FileMap) (outs : OutSet) (paths : List Path) : Type 0 where
+pub record ListsDeclared (Tells : Type 0) (files : FileMap) (outs : OutSet) (paths : List Path)
+    : Type 0 where
   pub ascend : IsStrictlySortedBy path_cmp paths
   pub taken : (path : Path) → is_among paths path ≡ true → declares outs path ≡ true
   pub exact : Tells → (path : Path) → is_among paths path ≡ (has files path && declares outs path)
@@ -101,13 +110,15 @@ pub record TakesAll (files : FileMap) (outs : OutSet) (limit : ℕ) (taken : Lis
 pub record SharesFirst (files : FileMap) (outs : OutSet) (path : Path) : Type 0 where
   pub there : has files path ≡ true
   pub is_shared : shares outs path ≡ true
-  pub least : (other : Path) → has files other ≡ true → path_cmp other path ≡ Less → shares outs other ≡ false
+  pub least : (other : Path) → has files other ≡ true → path_cmp other path ≡ Less
+      → shares outs other ≡ false
 
 pub record LargeFirst (files : FileMap) (outs : OutSet) (limit : ℕ) (path : Path) : Type 0 where
   pub alone : SharesNone files outs
   pub owns : takes outs path ≡ true
   pub long : fits limit (files path) ≡ false
-  pub least : (other : Path) → takes outs other ≡ true → path_cmp other path ≡ Less → fits limit (files other) ≡ true
+  pub least : (other : Path) → takes outs other ≡ true → path_cmp other path ≡ Less
+      → fits limit (files other) ≡ true
 
 -- what taking the owned files answers
 abbrev pub TakesFiles : FileMap → OutSet → ℕ → Result (List File) CapErr → Type 0

@@ -1,5 +1,5 @@
 // Putting back what a task had left.
-ghost use Rattle.std.specs.Prelude.{◌≡◌, false, true, OnOk, IsTrue};
+ghost use Rattle.std.specs.Prelude.{◌≡◌, true, OnOk, IsTrue};
 ghost use Rattle.std.specs.List.Sorted.{IsStrictlySortedBy};
 ghost use Rattle.rel_path.specs.Paths.{Path, is_among, path_cmp};
 ghost use Rattle.tree_dev.specs.Tree.{Keeps};
@@ -7,7 +7,7 @@ ghost use Rattle.globs.specs.Outputs.{takes};
 ghost use Rattle.globs.specs.OwnedFiles.{restored};
 ghost use Rattle.cache_api.specs.Artifacts.{ascends};
 ghost use Rattle.globs.specs.OwnedFiles.{owns_all};
-ghost use Rattle.capture.specs.Owned.{paths_of};
+ghost use Rattle.capture.specs.Owned.{NoneHeld, paths_of};
 ghost use Rattle.globs.specs.OwnedFiles.{SameOutside};
 ghost use Rattle.capture.specs.Cause.{HasCause};
 
@@ -26,12 +26,14 @@ pub fn restore<T: Tree>(
     outs: &OutSet,
     artifact: &Artifact,
 ) -> Result<(), CapErr>
-    requires free { (path : Path) → takes outs.now path ≡ true → (T.state tree.old).held path ≡ false }
+    requires free { NoneHeld (takes outs.now) (T.state tree.old).held }
     requires owns { IsTrue (owns_all outs.now artifact.now.files) }
     requires ascend { IsTrue (ascends artifact.now.files) }
     ensures keeps { Keeps (T.state tree.old) (T.state tree.new) }
-    ensures others { T.tells → SameOutside outs.now (T.state tree.old).files (T.state tree.new).files }
-    ensures restored { T.tells → OnOk result ((T.state tree.new).files ≡ restored outs.now artifact.now.files (T.state tree.old).files) }
+    ensures others { T.tells
+        → SameOutside outs.now (T.state tree.old).files (T.state tree.new).files }
+    ensures restored { T.tells → OnOk result ((T.state tree.new).files
+        ≡ restored outs.now artifact.now.files (T.state tree.old).files) }
     ensures cause { HasCause (T.state tree.old).faults (T.state tree.new).faults result }
 {
     put_all(alloc, tree, outs, artifact.files.as_slice())
@@ -44,12 +46,15 @@ fn put_all<T: Tree>(
     outs: &OutSet,
     stored: &[(RelPath, Bytes)],
 ) -> Result<(), CapErr>
-    requires free { (path : Path) → takes outs.now path ≡ true → (T.state tree.old).held path ≡ false }
-    requires fits { (path : Path) → is_among (paths_of stored.now) path ≡ true → takes outs.now path ≡ true }
+    requires free { NoneHeld (takes outs.now) (T.state tree.old).held }
+    requires fits { (path : Path) → is_among (paths_of stored.now) path ≡ true
+        → takes outs.now path ≡ true }
     requires ascend { IsStrictlySortedBy path_cmp (paths_of stored.now) }
     ensures keeps { Keeps (T.state tree.old) (T.state tree.new) }
-    ensures others { T.tells → SameOutside outs.now (T.state tree.old).files (T.state tree.new).files }
-    ensures restored { T.tells → OnOk result ((T.state tree.new).files ≡ restored outs.now stored.now (T.state tree.old).files) }
+    ensures others { T.tells
+        → SameOutside outs.now (T.state tree.old).files (T.state tree.new).files }
+    ensures restored { T.tells → OnOk result
+        ((T.state tree.new).files ≡ restored outs.now stored.now (T.state tree.old).files) }
     ensures cause { HasCause (T.state tree.old).faults (T.state tree.new).faults result }
 {
     match clear(alloc, tree, outs) {

@@ -1,11 +1,11 @@
 // Taking what a task left.
-ghost use Rattle.std.specs.Prelude.{◌≡◌, ◌⊎◌, ◌++◌, ◌∷◌, [], false, true, OnOk, IfOk, IfErr, IsTrue};
+ghost use Rattle.std.specs.Prelude.{◌≡◌, ◌⊎◌, ◌++◌, ◌∷◌, [], true, OnOk, IfOk, IfErr, IsTrue};
 ghost use Rattle.std.specs.Option.{option_map};
 ghost use Rattle.std.specs.List.Sorted.{IsStrictlySortedBy};
 ghost use Rattle.rel_path.specs.Paths.{Path, is_among, path_cmp};
 ghost use Rattle.tree_dev.specs.Tree.{Looks};
 ghost use Rattle.cache_api.specs.Artifacts.{ascends};
-ghost use Rattle.capture.specs.Owned.{paths_of, declares, first_shared, ReadsAll, IsTooLarge, IsShared, AddsFound, Takes, TakesFiles, ListsDeclared, AreBelow};
+ghost use Rattle.capture.specs.Owned.{NoneHeld, paths_of, declares, first_shared, ReadsAll, IsTooLarge, IsShared, AddsFound, Takes, TakesFiles, ListsDeclared, AreBelow};
 ghost use Rattle.capture.specs.Cause.{HasCause};
 
 use crate::CapErr;
@@ -27,7 +27,7 @@ pub fn take<T: Tree>(
     log: &[u8],
     limit: u64,
 ) -> Result<Artifact, CapErr>
-    requires free { (path : Path) → declares outs.now path ≡ true → (T.state tree.old).held path ≡ false }
+    requires free { NoneHeld (declares outs.now) (T.state tree.old).held }
     ensures looks { Looks (T.state tree.old) (T.state tree.new) }
     ensures log { IfOk result (λ artifact. artifact.log ≡ log.now) }
     ensures ascend { IfOk result (λ artifact. IsTrue (ascends artifact.files)) }
@@ -50,7 +50,7 @@ fn owned_files<T: Tree>(
     outs: &OutSet,
     limit: u64,
 ) -> Result<Files, CapErr>
-    requires free { (path : Path) → declares outs.now path ≡ true → (T.state tree.old).held path ≡ false }
+    requires free { NoneHeld (declares outs.now) (T.state tree.old).held }
     ensures looks { Looks (T.state tree.old) (T.state tree.new) }
     ensures takes { T.tells → TakesFiles (T.state tree.old).files outs.now limit result }
     ensures ascend { IfOk result (λ files. IsStrictlySortedBy path_cmp (paths_of files)) }
@@ -73,7 +73,7 @@ fn owned_files<T: Tree>(
 
 // The declared files, in order.
 fn declared_paths<T: Tree>(alloc: Global, tree: &mut T, outs: &OutSet) -> Result<Paths, CapErr>
-    requires free { (path : Path) → declares outs.now path ≡ true → (T.state tree.old).held path ≡ false }
+    requires free { NoneHeld (declares outs.now) (T.state tree.old).held }
     ensures looks { Looks (T.state tree.old) (T.state tree.new) }
     ensures lists { IfOk result (ListsDeclared T.tells (T.state tree.old).files outs.now) }
     ensures fault { IfErr result (λ e. (e ≡ CapErr.Failed) ⊎ (e ≡ CapErr.OutOfMemory)) }
@@ -123,11 +123,12 @@ fn read_all<T: Tree>(
     paths: &[RelPath],
     limit: u64,
 ) -> Result<Files, CapErr>
-    requires free { (path : Path) → is_among paths.now path ≡ true → (T.state tree.old).held path ≡ false }
+    requires free { NoneHeld (is_among paths.now) (T.state tree.old).held }
     requires ascend { IsStrictlySortedBy path_cmp paths.now }
     ensures looks { Looks (T.state tree.old) (T.state tree.new) }
     ensures ascend { IfOk result (λ files. IsStrictlySortedBy path_cmp (paths_of files)) }
-    ensures within { IfOk result (λ files. (path : Path) → is_among (paths_of files) path ≡ true → is_among paths.now path ≡ true) }
+    ensures within { IfOk result (λ files. (path : Path)
+        → is_among (paths_of files) path ≡ true → is_among paths.now path ≡ true) }
     ensures reads { T.tells → ReadsAll (T.state tree.old).files limit paths.now result }
     ensures cause { HasCause (T.state tree.old).faults (T.state tree.new).faults result }
 {

@@ -11,4 +11,4 @@ mod vast;
 
 pub use outcome::Outcome;
 pub use section::{compare, print_section};
-pub use vast::{RESULTS_END, Vast};
+pub use vast::Vast;

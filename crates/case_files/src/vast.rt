@@ -1,18 +1,22 @@
-// A device of any length that is all zeros but for its front and what was written to it.
+// A device of any length that is all zeros but for what was written to it.
 ghost use Rattle.std.specs.Prelude.{[]};
 
 use anyhow::{Result, anyhow};
+use rel_path::limits::MAX_STORE_BYTES;
 use std::alloc::Global;
 use store_dev::{StoreDevice, StoreErr};
 
-/// The store takes results up to this end of its file.
-pub const RESULTS_END: u64 = 1 << 32;
+// The magic of a store, and the gate behind it.
+const START: u64 = 8;
 
-// What stands in a store of one frame beside its value: the magic and the gates, the kind and the two lengths.
-const BESIDE: u64 = 19;
+// What a content of one frame has beside its bytes: the gate before it, its kind, two lengths and a digest.
+const BESIDE: u64 = 42;
 
-// The front of such a store: magic, open gate, a pair without a key.
-const FRONT: &[u8] = b"TURBSTO1\x01\x01\0\0\0\0";
+// Contents have about so many bytes, half of what a length of theirs can say.
+const MOST: u64 = 1 << 31;
+
+// The front of such a frame: an open gate, the kind of contents, and the length of a digest.
+const FRONT: &[u8] = b"\x01\x02\x20\0\0\0";
 
 /// Bytes that were written at a place.
 #[derive(Drop)]
@@ -21,7 +25,21 @@ struct Written {
     bytes: Vec<u8>,
 }
 
-/// A device that holds no more than its front and what was written, however long it is. It tells nothing.
+impl Written {
+    // Writes what stands in the buffer of it, where the buffer shows the device from that place on.
+    fn show(&self, from: u64, buf: &mut [u8]) {
+        for (i, byte) in self.bytes.iter().enumerate() {
+            let place = self.at.saturating_add(i as u64);
+            if place >= from {
+                if let Some(shown) = buf.get_mut((place - from) as usize) {
+                    *shown = *byte;
+                }
+            }
+        }
+    }
+}
+
+/// A device that holds no more than what was written, however long it is. It tells nothing.
 #[derive(Drop)]
 pub struct Vast {
     written: Vec<Written>,
@@ -29,28 +47,46 @@ pub struct Vast {
 }
 
 impl Vast {
-    /// A store of one frame with so many bytes less than the limit.
+    /// A store of contents that are all zeros, with so many bytes less than a store may have.
     pub fn with_room(alloc: Global, room: u64) -> Result<Vast> {
-        let len = RESULTS_END.saturating_sub(room);
-        let Ok(value_len) = u32::try_from(len.saturating_sub(BESIDE)) else {
-            return Err(anyhow!("no room that a store can have"));
+        let len = MAX_STORE_BYTES.saturating_sub(room);
+        let mut store = Vast {
+            written: Vec::new(alloc),
+            len,
         };
-        let mut bytes = Vec::from_slice(alloc, FRONT)?;
-        bytes.extend_from_slice(&value_len.to_le_bytes())?;
-        let mut written = Vec::new(alloc);
-        written.push(Written { at: 0, bytes })?;
-        Ok(Vast { written, len })
+        store.put(alloc, 0, b"TURBSTO1")?;
+        store.fill(alloc, len.saturating_sub(START + 1))?;
+        Ok(store)
     }
 
-    fn byte_at(&self, place: u64) -> u8 {
-        for write in self.written.iter().rev() {
-            if place >= write.at {
-                if let Some(byte) = write.bytes.get((place - write.at) as usize) {
-                    return *byte;
-                }
-            }
+    fn put(&mut self, alloc: Global, at: u64, bytes: &[u8]) -> Result<()> {
+        let bytes = Vec::from_slice(alloc, bytes)?;
+        self.written.push(Written { at, bytes })?;
+        Ok(())
+    }
+
+    // Frames that take so many bytes, all of one length but the last.
+    fn fill(&mut self, alloc: Global, bytes: u64) -> Result<()> {
+        let frames = bytes / (BESIDE + MOST) + 1;
+        let each = bytes / frames;
+        if each < BESIDE {
+            return Err(anyhow!("no room that a store can have"));
         }
-        0
+        for number in 0..frames {
+            let at = START.saturating_add(number.saturating_mul(each));
+            let rest = bytes.saturating_sub((frames - 1).saturating_mul(each));
+            let size = if number == frames - 1 { rest } else { each };
+            let Ok(content) = u32::try_from(size.saturating_sub(BESIDE)) else {
+                return Err(anyhow!("no length of a content"));
+            };
+            self.put(alloc, at, FRONT)?;
+            self.put(
+                alloc,
+                at.saturating_add(FRONT.len() as u64),
+                &content.to_le_bytes(),
+            )?;
+        }
+        Ok(())
     }
 }
 
@@ -82,8 +118,9 @@ impl StoreDevice for Vast {
     }
 
     fn read_at(&mut self, at: u64, buf: &mut [u8]) -> Result<(), StoreErr> {
-        for (i, byte) in buf.iter_mut().enumerate() {
-            *byte = self.byte_at(at.saturating_add(i as u64));
+        buf.fill(0);
+        for write in &self.written {
+            write.show(at, buf);
         }
         Ok(())
     }

@@ -5,10 +5,10 @@ use crate::parts;
 use crate::sessions::session;
 use anyhow::{Result, anyhow};
 use artifact_store::{OpenErr, Store};
-use cache_api::{Artifact, Cache, CacheErr};
+use cache_api::{Artifact, Cache, CacheErr, Hit, HitFile, Key, NewPair, Put};
 use case_files::{answers, inputs};
 use globs::{GlobList, GlobLists, OutSet};
-use rel_path::{Bytes, RelPath};
+use rel_path::{Bytes, RelPath, Span};
 use serde_json::{Value, json};
 use std::alloc::Global;
 use store_dev::{FuseStore, MemStore, StoreDevice};
@@ -65,6 +65,92 @@ fn find<S: StoreDevice>(
     }
 }
 
+// Places as pairs of an offset and a length.
+fn places(alloc: Global, spans: &[Span]) -> Result<Value> {
+    let mut values = Vec::new(alloc);
+    for span in spans {
+        values.push(json!(in alloc; [span.at, span.len])?)?;
+    }
+    Ok(Value::Array(values))
+}
+
+fn file_places(alloc: Global, files: &[HitFile]) -> Result<Value> {
+    let mut values = Vec::new(alloc);
+    for file in files {
+        let path = answers::path(alloc, &file.path)?;
+        let spans = places(alloc, file.spans.as_slice())?;
+        values.push(json!(in alloc; [path, spans])?)?;
+    }
+    Ok(Value::Array(values))
+}
+
+fn hit_places(alloc: Global, hit: &Hit) -> Result<Value> {
+    let log = places(alloc, hit.log.as_slice())?;
+    let files = file_places(alloc, hit.files.as_slice())?;
+    Ok(json!(in alloc; {"log": log, "files": files})?)
+}
+
+// Where the artifact stands.
+fn lookup<S: StoreDevice>(
+    alloc: Global,
+    store: &mut Store<S>,
+    key: &[u8],
+    outs: &OutSet,
+) -> Result<Value> {
+    if !store.whole() {
+        return Err(anyhow!("a put that failed came before"));
+    }
+    match store.lookup(alloc, key, outs) {
+        Ok(Some(hit)) => hit_places(alloc, &hit),
+        Ok(None) => Ok(Value::Null),
+        Err(error) => fault(alloc, error),
+    }
+}
+
+fn came_of(alloc: Global, put: Put) -> Result<Value> {
+    match put {
+        Put::Stored => answers::text(alloc, "ok"),
+        Put::Full => answers::text(alloc, "Full"),
+    }
+}
+
+// Adds pairs at once.
+fn put_all<S: StoreDevice>(
+    alloc: Global,
+    store: &mut Store<S>,
+    keys: &[Vec<u8>],
+    artifacts: &[Artifact],
+) -> Result<Value> {
+    if !store.whole() {
+        return Err(anyhow!("a put that failed came before"));
+    }
+    let mut pairs = Vec::new(alloc);
+    for (key, artifact) in keys.iter().zip(artifacts) {
+        let key = Key::new(key.as_slice());
+        pairs.push(NewPair { key, artifact })?;
+    }
+    match store.put_all(alloc, pairs.as_slice()) {
+        Ok(puts) => {
+            let mut values = Vec::new(alloc);
+            for put in puts.as_slice() {
+                values.push(came_of(alloc, *put)?)?;
+            }
+            Ok(Value::Array(values))
+        }
+        Err(error) => fault(alloc, error),
+    }
+}
+
+fn put_pairs<S: StoreDevice>(alloc: Global, store: &mut Store<S>, call: &Value) -> Result<Value> {
+    let mut keys = Vec::new(alloc);
+    let mut artifacts = Vec::new(alloc);
+    for pair in inputs::list(call, "pairs")? {
+        keys.push(parts::bytes(alloc, pair, "key")?)?;
+        artifacts.push(artifact_of(alloc, pair)?)?;
+    }
+    put_all(alloc, store, keys.as_slice(), artifacts.as_slice())
+}
+
 fn outs_of(alloc: Global, case: &Value) -> Result<OutSet> {
     Ok(OutSet {
         folder: RelPath::read(alloc, FOLDER)?,
@@ -84,7 +170,9 @@ fn call_of(
             let key = parts::bytes(alloc, call, "key")?;
             put(alloc, store, &key, &artifact_of(alloc, call)?)
         }
+        "put_all" => put_pairs(alloc, store, call),
         "find" => find(alloc, store, &parts::bytes(alloc, call, "key")?, outs),
+        "lookup" => lookup(alloc, store, &parts::bytes(alloc, call, "key")?, outs),
         "whole" => Ok(Value::from(store.whole())),
         _ => Err(anyhow!("no such call")),
     }

@@ -4,8 +4,9 @@ use crate::parts;
 use anyhow::{Result, anyhow};
 use artifact_store::Store;
 use cache_api::Artifact;
-use case_files::{RESULTS_END, Vast, inputs};
+use case_files::{Vast, inputs};
 use record_log::Log;
+use rel_path::limits::MAX_STORE_BYTES;
 use rel_path::{Bytes, Files};
 use serde_json::{Value, json};
 use std::alloc::Global;
@@ -44,7 +45,7 @@ pub fn answer(alloc: Global, case: &Value) -> Result<Value> {
     let found = put_logs(alloc, &mut store, case)?;
     let whole = store.whole();
     let mut device = store.device();
-    let room = RESULTS_END.saturating_sub(device.len().unwrap_or(0));
+    let room = MAX_STORE_BYTES.saturating_sub(device.len().unwrap_or(0));
     let frames = frames(alloc, device);
     Ok(json!(in alloc; {"answers": found, "whole": whole, "room": room, "frames": frames})?)
 }

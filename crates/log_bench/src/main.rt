@@ -9,7 +9,6 @@ ghost use Rattle.std.specs.Prelude.{◌≡◌, ◌+◌, ◌<◌, ◌^◌, IsTrue
 ghost use Rattle.record_log.specs.Log.{is_whole, count_of};
 
 mod batches;
-mod file_store;
 
 use anyhow::{Result, bail};
 use batches::{bench_batch, bench_opening};

@@ -28,7 +28,7 @@ impl<S: StoreDevice> Log<S> {
     ghost use Rattle.store_dev.specs.Device.{LeavesOnly};
     ghost use Rattle.record_log.specs.Kinds.{Entry, entry, limit_of, is_known, form, blobs, room_for};
     ghost use Rattle.record_log.specs.Frames.{frames_of, reading, IsAt, IsBeforeOrAfter, IsOpenedAs, ReadsAsOneOf, ends, text_of};
-    ghost use Rattle.record_log.specs.Frames.{all_formed, IsSound, ReadsAsOneOrNone};
+    ghost use Rattle.record_log.specs.Frames.{all_formed, opened, IsSound, ReadsAsOneOrNone};
     ghost use Rattle.record_log.specs.Kept.{IsMarkOf, marked};
     ghost use Rattle.record_log.specs.Batch.{new_entries, AllKnown, EachWithin, room_for_all, IsBeforeOrAll};
     ghost use Rattle.record_log.specs.Seats.{IsWithin, IsSpanOf, capped};
@@ -234,6 +234,7 @@ impl<S: StoreDevice> Log<S> {
         ensures count { count_of self.new ≡ count_of self.old }
         ensures room { room_of self.new ≡ room_of self.old }
         ensures probes { probes_of self.new ≡ capped (probes_of self.old) 1 }
+        ensures more { probes_of self.old ≤ probes_of self.new }
         ensures answers { IfErr result IsReadErr }
         ensures cause { CountsIn self.old self.new result }
     {
@@ -253,6 +254,7 @@ impl<S: StoreDevice> Log<S> {
         ensures count { count_of self.new ≡ count_of self.old }
         ensures room { room_of self.new ≡ room_of self.old }
         ensures probes { probes_of self.new ≡ capped (probes_of self.old) 1 }
+        ensures more { probes_of self.old ≤ probes_of self.new }
         ensures answers { IfErr result (λ e. e ≡ LogErr.Failed) }
         ensures cause { CountsIn self.old self.new result }
     {
@@ -324,6 +326,8 @@ impl<S: StoreDevice> Log<S> {
         ensures whole { WholeAfter result (is_whole self.old) (is_whole self.new) }
 
         ensures room { room_of self.new ≤ room_of self.old }
+        ensures taken { OnOk result (room_of self.new + length (opened (new_entries frames.now))
+            ≤ room_of self.old) }
         ensures limit { IsFullWhere result
             (room_for_all (new_entries frames.now)) (room_of self.old) }
         ensures full { S.tells → IsFullWhere result

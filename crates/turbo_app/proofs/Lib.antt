@@ -1,4 +1,5 @@
 mod Causes
 mod Printed
+mod Finished
 mod Only
 mod NotBuilt

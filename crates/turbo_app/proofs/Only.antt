@@ -5,7 +5,8 @@ use Rattle.std.proofs.lemmas.Result.{IfOk-at_ok, IfErr-at_err}
 use Rattle.rel_path.specs.Files.{FileMap}
 use Rattle.cache_api.specs.Pairs.{Pair}
 use Rattle.record_log.specs.Frames.{Fault, reading}
-use Rattle.artifact_store.specs.Pairs.{stands_for, pairs_in}
+use Rattle.artifact_store.specs.Pairs.{stands_for}
+use Rattle.pair_frames.specs.Pairs.{pairs_in}
 use Rattle.cli_words.specs.declared.order.RunOrder.{RunOrder}
 use Rattle.refusals.specs.declared.refusal.Refusal.{Refusal}
 use Rattle.run_laws.specs.Effects.{Book}

@@ -1,5 +1,5 @@
 -- What stopped, dry or not.
-use Rattle.std.proofs.Common.{◌≡◌, ℕ, Bool, true, false, List, refl}
+use Rattle.std.proofs.Common.{◌≡◌, ℕ, Bool, true, false, List, refl, ◌∙◌, ap, Some}
 use Rattle.listing.specs.KeyText.{Fits}
 use Rattle.cache_api.specs.Pairs.{Pair}
 use Rattle.run_laws.specs.Effects.{Book}
@@ -10,9 +10,12 @@ use Rattle.run_plan.specs.declared.plan.Plan.{Plan}
 use Rattle.run_plan.specs.Openings.{Opening, setting_of}
 use Rattle.runner.specs.Answers.{opening_of}
 use Rattle.artifact_store.specs.Store.{state_of}
-use Rattle.turbo_app.specs.Outcomes.{Moment, moment_of}
+use Rattle.artifact_store.specs.Pairs.{stands_for}
+use Rattle.turbo_app.specs.Answers.{IfDone}
+use Rattle.turbo_app.specs.Outcomes.{Moment, moment_of, RanAs, RanPlan, RanPlanDry}
 use Rattle.turbo_app.specs.Stops.{IfFault, StopsRun}
 use Rattle.turbo_app.proofs.Printed.{within}
+use Rattle.turbo_app.proofs.Finished.{dry_done, live_done}
 use Rattle.turbo_app.proofs.running.run_store.Goals as goal
 
 pub returns-clause-stopped : goal.returns-clause-stopped
@@ -51,3 +54,57 @@ returns-clause-stopped g c told store heard stored = by c.args.is_dry refl
     by false is =
         let live = rw is at (c.run_over-answer.ensures.stopped told store heard) in
         within c.run_over-answer.result (IsStorable book) _ (λ storable. within c.run_over-answer.result (Fits plan.listing) _ (λ fits. within c.run_over-answer.result (IsGood book pairs) _ (λ good. live (is_ready storable fits good))))
+
+pub returns-clause-ran : goal.returns-clause-ran
+returns-clause-ran g c told store stored opened = by c.args.is_dry refl
+  where
+    plan : Plan
+    plan = c.args.plan.now
+
+    pairs : List Pair
+    pairs = (state_of c.args.store).pairs
+
+    book : Book
+    book = g.W.Spawner.effect (g.W.Spawner.runs c.args.world.now).book
+
+    old : Moment
+    old = moment_of (g.W.Tree.state c.args.world.now).files (g.W.Spawner.runs c.args.world.now).steps stored (g.K.Sink.written c.args.out.now)
+
+    new : Moment
+    new = moment_of (g.W.Tree.state c.run_over-answer.new.world).files (g.W.Spawner.runs c.run_over-answer.new.world).steps (g.S.StoreDevice.content c.device.result) (g.K.Sink.written c.run_over-answer.new.out)
+
+    opening : Opening
+    opening = opening_of g.W.Spawner.effect (g.W.Spawner.runs c.args.world.now) (g.W.Tree.state c.args.world.now).files pairs
+
+    is_ready : IsStorable book → Fits plan.listing → IsGood book pairs → IsReady (setting_of plan opening)
+    is_ready storable fits good = record {
+      valid = record { ordered = c.requires.plan.ordered; fits = fits };
+      apart = c.requires.plan.apart;
+      behaved = g.met.W.Spawner.well_behaved (g.W.Spawner.runs c.args.world.now).book;
+      storable = storable;
+      good = good;
+      inputs = c.requires.inputs told;
+    }
+
+    by : (dry : Bool) → c.args.is_dry ≡ dry → IfDone c.run_over-answer.result (RanAs dry book plan g.K.Sink.tells old new)
+    by true is =
+        dry_done (RanPlanDry plan g.K.Sink.tells old new) c.run_over-answer.result c.run_over-answer.ensures.whole (rw is at c.run_over-answer.ensures.dry_status) (λ heard. rw is at (c.run_over-answer.ensures.dry_page store heard))
+        (λ status whole zero page. record {
+          pairs = pairs;
+          opened = opened;
+          left = c.device.ensures.pairs store whole ∙ ap (λ (l : List Pair). Some l) (rw is at (c.run_over-answer.ensures.dry_pairs store));
+          files = rw is at c.run_over-answer.ensures.dry_files;
+          steps = rw is at c.run_over-answer.ensures.dry_steps;
+          page_is = page;
+          status_is = zero;
+        })
+    by false is =
+        live_done _ (RanPlan book plan g.K.Sink.tells old new) c.run_over-answer.result c.run_over-answer.ensures.whole (rw is at (c.run_over-answer.ensures.ran told store))
+        (λ status whole ran. record {
+          before = pairs;
+          opened = opened;
+          after = (state_of c.run_over-answer.new.cache).pairs;
+          left = c.device.ensures.pairs store whole;
+          room = (state_of c.run_over-answer.new.cache).room;
+          ran = λ storable fits good. ran (is_ready storable fits good);
+        })

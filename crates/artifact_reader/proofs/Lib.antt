@@ -1,0 +1,10 @@
+pub mod Splits
+pub mod Passing
+pub mod SoFar
+pub mod Places
+pub mod Sequence
+pub mod Words
+pub mod Values
+pub mod Gathering
+pub mod Wholes
+pub mod Ascents

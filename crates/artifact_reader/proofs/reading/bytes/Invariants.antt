@@ -1,0 +1,9 @@
+use Rattle.artifact_reader.specs.Cursors.{left_in}
+use Rattle.artifact_reader.proofs.SoFar.{SoFar}
+use Rattle.artifact_reader.proofs.reading.bytes.Given as goal
+
+abbrev pub invariant-loop-left : goal.invariant-loop-left
+invariant-loop-left l = SoFar (λ text. l.found.items) (left_in l.fn.cursor) (left_in l.cursor) l.fn.n l.left
+
+abbrev pub decreases-loop-left : goal.decreases-loop-left
+decreases-loop-left l = l.left

@@ -1,0 +1,4 @@
+pub mod Parts
+pub mod Cursors
+pub mod Reads
+pub mod Artifacts

@@ -1,0 +1,5 @@
+pub mod Frames
+pub mod Standing
+pub mod Sources
+pub mod Answers
+pub mod Parts

@@ -1,0 +1,9 @@
+pub mod Holding
+pub mod Keeping
+pub mod Pools
+pub mod Adding
+pub mod Files
+pub mod Cuts
+pub mod Paths
+pub mod Pairs
+pub mod Offers

@@ -1,0 +1,9 @@
+pub mod Held
+pub mod Contents
+pub mod Staged
+pub mod Pieces
+pub mod Cuts
+pub mod Lists
+pub mod Putting
+pub mod Learning
+pub mod Laws
