@@ -10,7 +10,7 @@ use Rattle.run_laws.specs.Ancestors.{part_at, is_nil}
 use Rattle.run_laws.specs.Valid.{IsValid}
 use Rattle.run_laws.specs.Effects.{Book}
 use Rattle.spawn_dev.specs.Effects.{IsEffect, IsWellBehaved}
-use Rattle.cache_api.specs.Artifacts.{Artifact, IsTold}
+use Rattle.cache_api.specs.Artifacts.{Artifact}
 use Rattle.cache_api.specs.Pairs.{Pair}
 use Rattle.cache_api.specs.Reading.{ReadsOnly, artifact_in}
 use Rattle.run_laws.specs.CleanLaws.{EffectLaw}
@@ -25,30 +25,12 @@ use Rattle.run_laws.proofs.EachFacts.{each_law_lem}
 use Rattle.run_laws.proofs.GoodFacts.{value_law_lem}
 use Rattle.run_laws.proofs.FoundFacts.{found-stands}
 
--- what a command did can be told from its artifact
-abbrev EffectFits : Outcome → Type 0
-EffectFits Skipped = Unit {0}
-EffectFits Passed = Unit {0}
-EffectFits (Done effect) = IsTold (artifact_of effect)
-
-outcome-fits : (mode : Mode) (book : Book) (l : Listing) (i : ℕ) (outs : List Outcome) → IsStorable book → EffectFits (outcome mode book l i outs)
-unfolding outcome
-outcome-fits mode book l i outs storable = by (skips mode && list_any (λ d. is_bad (slice_get outs d)) (part_at l i).deps) (is_nil (part_at l i).scripts)
-  where
-    by : (b n : Bool) → EffectFits (cond b Skipped (cond n Passed (Done (book (seen l i outs)))))
-    by true n = tt
-    by false true = tt
-    by false false = storable (seen l i outs)
-
-hit-found : ReadsOnly artifact_in → (book : Book) (mode : Mode) (pairs : List Pair) (a : Artifact) (l : Listing) (i : ℕ) → IsStorable book → IsGood book pairs → IsValid l → i < length l.parts
+hit-found : ReadsOnly artifact_in → (book : Book) (mode : Mode) (pairs : List Pair) (a : Artifact) (l : Listing) (i : ℕ) → IsStorable mode book l → IsGood book pairs → IsValid l → i < length l.parts
     → found_for pairs l i ≡ Some a → (effect : Effect) × EndsWell mode book l i effect × (a ≡ artifact_of effect)
 hit-found only book mode pairs a l i storable good v h e =
     let s = found-stands artifact_in _ _ pairs a e in
     let w = value_law_lem book mode pairs s.0 l i good v h s.1 in
-    let same = sym (each_law_lem mode book l i v.ordered.lower h) ∙ w.1.ended in
-    let is : outcome mode book l i (clean mode book l) ≡ Done w.0 = cc in
-    let fits = subst EffectFits is (outcome-fits mode book l i (clean mode book l) storable) in
-    (w.0, w.1, only (artifact_of w.0) a fits (sym (ap artifact_in w.2) ∙ s.2))
+    (w.0, w.1, only (artifact_of w.0) a (storable i w.0 w.1.ended) (sym (ap artifact_in w.2) ∙ s.2))
 
 pub hit_law_lem : ReadsOnly artifact_in → HitLaw
 hit_law_lem only = record {

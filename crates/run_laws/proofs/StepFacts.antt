@@ -19,7 +19,7 @@ use Rattle.run_laws.specs.Clean.{skips, is_bad, written, seen, outcome, clean, o
 use Rattle.run_laws.specs.Plans.{log_path, AreApart}
 use Rattle.run_laws.specs.Worlds.{seen_in, logged, Stage, Stages, is_finished, is_touched, is_well, put_at, status_in, log_in, IsOther, Holds, Shows}
 use Rattle.globs.specs.OwnedFiles.{cleared, restored}
-use Rattle.run_laws.specs.WorldLaws.{IsReadyFor, StepsLaw, LeavesLaw}
+use Rattle.run_laws.specs.WorldLaws.{IsReadyFor, StepsLaw, ShowsLaw, LeavesLaw}
 use Rattle.run_laws.specs.Worlds.Stage.{Untouched, Running, Finished}
 use Rattle.run_laws.proofs.ListFacts.{any_none, all_members}
 use Rattle.run_laws.proofs.AncestorFacts.{dep-above}
@@ -271,9 +271,33 @@ get-below [] i x e = absurd (cc)
 get-below (y ∷ xs) zero x e = omega arith
 get-below (y ∷ xs) (suc i) x e = let k = get-below xs i x e in omega arith
 
+pub shows_law_lem : ShowsLaw
+shows_law_lem mode book l opening world stages t low holds script fin = by-stage (stages t) refl fin
+  where
+    by-outcome : is_finished (stages t) ≡ true → (status : ℕ) (o : Option Outcome) → slice_get (clean mode book l) t ≡ o → status_in o ≡ Some status → Shows mode book l t world
+    by-outcome fin status None e told = absurd (cc)
+    by-outcome fin status (Some Skipped) e told = absurd (cc)
+    by-outcome fin status (Some Passed) e told =
+        let same = sym (each_law_lem mode book l t low (subst (λ n. t < n) (length-clean_upto mode book l (length l.parts)) (get-below (clean mode book l) t Passed e))) ∙ e in
+        let is : outcome mode book l t (clean mode book l) ≡ Passed = cc in
+        absurd (true≢false (sym script ∙ passed-plain mode book l t (clean mode book l) is))
+    by-outcome fin status (Some (Done effect)) e told =
+        let here = get_or-some (clean mode book l) t (Done effect) Skipped e in
+        record {
+          effect = effect;
+          ended = e;
+          files = λ path own. holds.owned t script fin path own ∙ ap (λ o. file_at (written o) path) here;
+          log = holds.logs t script fin ∙ ap (λ o. Some (log_in o)) here;
+        }
+
+    by-stage : (s : Stage) → stages t ≡ s → is_finished (stages t) ≡ true → Shows mode book l t world
+    by-stage Untouched e fin = absurd (false≢true (sym (ap is_finished e) ∙ fin))
+    by-stage Running e fin = absurd (false≢true (sym (ap is_finished e) ∙ fin))
+    by-stage (Finished status) e fin = by-outcome fin status (slice_get (clean mode book l) t) refl (holds.told t status e)
+
 pub leaves_law_lem : LeavesLaw
 leaves_law_lem mode book l opening world stages low holds idle = record {
-  effects = λ t script fin. by-stage t script (stages t) refl fin;
+  effects = λ t script fin. shows_law_lem mode book l opening world stages t low holds script fin;
   others = λ path other. holds.others path (record {
     unowned = λ j script touched. (other j script (over-touched (stages j) (idle j) touched)).0;
     no_log = λ j script fin. (other j script fin).1;
@@ -284,24 +308,3 @@ leaves_law_lem mode book l opening world stages low holds idle = record {
     over-touched Untouched ne h = h
     over-touched Running ne h = absurd (ne refl)
     over-touched (Finished status) ne h = refl
-
-    by-outcome : (t : ℕ) → has_script (part_at l t) ≡ true → is_finished (stages t) ≡ true → (status : ℕ) (o : Option Outcome) → slice_get (clean mode book l) t ≡ o → status_in o ≡ Some status → Shows mode book l t world
-    by-outcome t script fin status None e told = absurd (cc)
-    by-outcome t script fin status (Some Skipped) e told = absurd (cc)
-    by-outcome t script fin status (Some Passed) e told =
-        let same = sym (each_law_lem mode book l t low (subst (λ n. t < n) (length-clean_upto mode book l (length l.parts)) (get-below (clean mode book l) t Passed e))) ∙ e in
-        let is : outcome mode book l t (clean mode book l) ≡ Passed = cc in
-        absurd (true≢false (sym script ∙ passed-plain mode book l t (clean mode book l) is))
-    by-outcome t script fin status (Some (Done effect)) e told =
-        let here = get_or-some (clean mode book l) t (Done effect) Skipped e in
-        record {
-          effect = effect;
-          ended = e;
-          files = λ path own. holds.owned t script fin path own ∙ ap (λ o. file_at (written o) path) here;
-          log = holds.logs t script fin ∙ ap (λ o. Some (log_in o)) here;
-        }
-
-    by-stage : (t : ℕ) → has_script (part_at l t) ≡ true → (s : Stage) → stages t ≡ s → is_finished (stages t) ≡ true → Shows mode book l t world
-    by-stage t script Untouched e fin = absurd (false≢true (sym (ap is_finished e) ∙ fin))
-    by-stage t script Running e fin = absurd (idle t e)
-    by-stage t script (Finished status) e fin = by-outcome t script fin status (slice_get (clean mode book l) t) refl (holds.told t status e)

@@ -30,7 +30,7 @@ pub record KeysLaw : Type 0 where
 pub record HitLaw : Type 0 where
   pub value : (book : Book) (mode : Mode) (pairs : List Pair) (value : List ℕ) (l : Listing) (i : ℕ) → IsGood book pairs → IsValid l → i < length l.parts
       → Contains pairs (key_of l i, value) → (effect : Effect) × EndsWell mode book l i effect × (value ≡ artifact_text (artifact_of effect))
-  pub found : (book : Book) (mode : Mode) (pairs : List Pair) (a : Artifact) (l : Listing) (i : ℕ) → IsStorable book
+  pub found : (book : Book) (mode : Mode) (pairs : List Pair) (a : Artifact) (l : Listing) (i : ℕ) → IsStorable mode book l
       → IsGood book pairs → IsValid l → i < length l.parts
       → found_for pairs l i ≡ Some a → (effect : Effect) × EndsWell mode book l i effect × (a ≡ artifact_of effect)
 

@@ -110,13 +110,13 @@ Leads s now (move ∷ moves) last = Allows s now move × Leads s (after s now mo
 -- ---- what holds of them
 
 -- What is asked of a run: a valid listing of tasks that keep out of each other's way; commands that write their own
--- outputs alone, and no more than a store can keep; good pairs, as earlier runs left them; the listing's inputs among the
+-- outputs alone, and in this run no more than a store can keep; good pairs, as earlier runs left them; the listing's inputs among the
 -- files.
 pub record IsReady (s : Setting) : Type 0 where
   pub valid : IsValid s.listing
   pub apart : AreApart s.listing
   pub behaved : IsWellBehaved s.book
-  pub storable : IsStorable s.book
+  pub storable : IsStorable s.mode s.book s.listing
   pub good : IsGood s.book s.pairs
   pub inputs : (path : Path) → names s.listing.parts path ≡ true → s.files path ≡ file_at s.listing.files path
 

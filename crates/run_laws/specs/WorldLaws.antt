@@ -15,7 +15,7 @@ use Rattle.run_laws.specs.Effects.{Book}
 use Rattle.spawn_dev.specs.Effects.{IsWellBehaved}
 use Rattle.run_laws.specs.Clean.{skips, is_bad, written, clean, outcome_in}
 use Rattle.run_laws.specs.Plans.{AreApart}
-use Rattle.run_laws.specs.Worlds.{is_read, seen_in, logged, Stages, is_finished, is_well, put_at, Holds, Leaves}
+use Rattle.run_laws.specs.Worlds.{is_read, seen_in, logged, Stages, is_finished, is_well, put_at, Holds, Shows, Leaves}
 use Rattle.globs.specs.OwnedFiles.{cleared, restored}
 use Rattle.run_laws.specs.Worlds.Stage.{Untouched, Running, Finished}
 
@@ -57,6 +57,12 @@ pub record StepsLaw : Type 0 where
       → IsLower l → t < length l.parts → Holds mode book l opening stages world
       → stages t ≡ Running → slice_get (clean mode book l) t ≡ Some (Done effect)
       → Holds mode book l opening (put_at stages t (Finished effect.status)) (logged (part_at l t) effect.log (over world (file_at effect.files)))
+
+-- a finished task with a script has left its clean outcome, whatever else runs
+abbrev pub ShowsLaw : Type 0
+ShowsLaw = (mode : Mode) (book : Book) (l : Listing) (opening world : FileMap) (stages : Stages) (t : ℕ) → IsLower l
+    → Holds mode book l opening stages world → has_script (part_at l t) ≡ true → is_finished (stages t) ≡ true
+    → Shows mode book l t world
 
 -- where nothing runs, the finished tasks have left what they leave without a cache, and nothing else has changed
 abbrev pub LeavesLaw : Type 0

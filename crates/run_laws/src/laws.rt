@@ -5,7 +5,7 @@ ghost use Rattle.run_laws.specs.FoundLaws.{ArtifactsDiffer, FilesDiffer, FoundLa
 ghost use Rattle.run_laws.specs.PairLaws.{KeysLaw, HitLaw, DueLaw, HistoryLaw};
 ghost use Rattle.run_laws.specs.Plans.{LogLaw};
 ghost use Rattle.run_laws.specs.Runs.{RunLaw};
-ghost use Rattle.run_laws.specs.WorldLaws.{StartLaw, StepsLaw, LeavesLaw};
+ghost use Rattle.run_laws.specs.WorldLaws.{StartLaw, StepsLaw, ShowsLaw, LeavesLaw};
 
 /// The closure law: what becomes of a task is what becomes of the last task of its closure, in every mode.
 pub fn closure_law()
@@ -94,6 +94,11 @@ pub fn start_law()
 /// Passing over, a hit, a start and an end keep what the files hold; what a command does is its clean outcome.
 pub fn steps_law()
     ensures { StepsLaw }
+{}
+
+/// What a finished task has left, whatever else runs.
+pub fn shows_law()
+    ensures { ShowsLaw }
 {}
 
 /// What a run leaves where nothing runs any more.

@@ -14,7 +14,7 @@ mod outcome;
 pub use laws::{
     artifact_law, closure_is_valid, closure_law, due_law, each_law, effect_law, ends_law,
     found_law, history_law, hit_law, keys_law, leaves_law, log_law, modes_law, run_law, seen_law,
-    skipped_law, start_law, steps_law,
+    shows_law, skipped_law, start_law, steps_law,
 };
 pub use mark::Mark;
 pub use outcome::Outcome;
