@@ -35,7 +35,7 @@ use Rattle.run_plan.specs.Plans.{bypasses}
 use Rattle.run_plan.specs.Commands.{command_of}
 use Rattle.run_plan.specs.Openings.{Opening, setting_of, rules_of, tasks_of}
 use Rattle.run_plan.specs.Results.{effect_at, step_of, NotedAs, stores, ends_of}
-use Rattle.run_plan.specs.Pages.{report_of, print_of, page_mark}
+use Rattle.run_plan.specs.Pages.{report_of, digits_of, page_mark}
 use Rattle.run_plan.specs.Stories.{Now, Story, stage_of, has_ended, progress_of, notes_in, note_in, ReportsAs}
 use Rattle.run_plan.specs.StoryLaws.{Stands}
 use Rattle.run_plan.proofs.Grounds.{Laws}
@@ -148,7 +148,7 @@ module _ (laws : Laws) (plan : Plan) (o : Opening) (now : Now) (stands : Stands 
     -- ---- an artifact found
 
     abbrev hit_report : Report
-    hit_report = record { mark = printed_mark.Hit; print = print_of plan t; status = 0; note = Stored }
+    hit_report = record { mark = printed_mark.Hit; digits = digits_of plan t; status = 0; note = Stored }
 
     pub arm-hit : has_script (part_at plan.listing t) ≡ true → (room : ℕ) (artifact : Artifact) → room ≤ now.room → bypasses plan t ≡ false → found_for now.pairs plan.listing t ≡ Some artifact
         → Story plan o (record now {
@@ -167,7 +167,7 @@ module _ (laws : Laws) (plan : Plan) (o : Opening) (now : Now) (stands : Stands 
         let zero_status : (effect.status == 0) ≡ true = hit.1.good t (Done effect) (or_left (t == t) (is_above plan.listing t t) (eq-eqb t t refl)) hit.1.ended in
         let status : (effect_at s t).status ≡ 0 = ap (λ e. e.status) is_effect ∙ eqb-true effect.status 0 zero_status in
         let log : artifact.0 ≡ (effect_at s t).log = ap (λ a. a.0) hit.2 ∙ ap (λ e. e.log) (sym is_effect) in
-        let back : report_of plan s Stored t ≡ hit_report = λ i. record { mark = page_mark (marked i); print = print_of plan t; status = status i; note = Stored } in
+        let back : report_of plan s Stored t ≡ hit_report = λ i. record { mark = page_mark (marked i); digits = digits_of plan t; status = status i; note = Stored } in
         let here = progress_of now.states now.files now.pairs story.will in
         let moved = leads-push s (opening s) story.moves here (Replay t artifact) story.leads (record { below = below; stage = ap stage_of waits }, script, marked, first) in
         let notes : notes_in (put_at now.reports t (Some hit_report)) ≡ notes_in now.reports =

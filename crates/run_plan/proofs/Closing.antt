@@ -30,7 +30,6 @@ use Rattle.run_plan.specs.declared.report.Report.{Report}
 use Rattle.run_plan.specs.Plans.{id_at}
 use Rattle.run_plan.specs.Pages.{page_mark, report_of, block_of, shows, block_at, blocks, has_failed, failed_tasks, worst, good_count, cached_count, script_count, summary_of, page}
 use Rattle.run_plan.specs.Reports.{succeeded, failed, is_cached, was_cached, status_in, failed_by, worst_by, summary_by}
-use Rattle.run_plan.specs.Answers.{IsSafe}
 use Rattle.run_plan.specs.Stories.{Now, Story, stage_of, has_ended, note_in, notes_in, ReportsAs}
 use Rattle.run_plan.specs.StoryLaws.{Stands, Over, blocks_upto}
 use Rattle.run_plan.proofs.Grounds.{Laws}
@@ -240,18 +239,6 @@ module _ (laws : Laws) (plan : Plan) (o : Opening) (now : Now) (stands : Stands 
         page_is = ap (λ x. blocks_upto plan o now (length plan.listing.parts) ++ x) summary-told ∙ sym (page-agree plan s (notes_in now.reports) _ (λ t. is_done (now.states t)) same);
       }
 
-  pub is-safe : IsSafe plan o now.steps now.pairs
-  is-safe = record {
-    mine = map (step_of plan s) story.mine;
-    notes = notes_in now.reports;
-    steps_are = story.steps;
-    put = filter (stores plan s (notes_in now.reports)) (ends_of story.mine);
-    unput = [];
-    pairs_are = (runs laws plan o now stands).pairs ∙ ap (λ ps. o.pairs ++ map (clean_pair s) ps) story.puts;
-    due = ap (filter (stores plan s (notes_in now.reports))) (told-step plan s story.mine) ∙ sym (append-nil (filter (stores plan s (notes_in now.reports)) (ends_of story.mine)));
-    good = (runs laws plan o now stands).good;
-  }
-
 pub blocks-kept : (plan : Plan) (o : Opening) (now later : Now) (n : ℕ) → ((u : ℕ) → u < n → (later.states u ≡ now.states u) × (later.reports u ≡ now.reports u)) → blocks_upto plan o later n ≡ blocks_upto plan o now n
 blocks-kept plan o now later zero same = refl
 blocks-kept plan o now later (suc n) same =
@@ -260,17 +247,3 @@ blocks-kept plan o now later (suc n) same =
     let state = h.0 in
     let report = h.1 in
     λ i. before i ++ cond (has_script (part_at plan.listing n) && is_done (state i)) (block_of plan n (report_of plan (setting_of plan o) (note_in (report i)) n) (effect_at (setting_of plan o) n).log) []
-
-pub safe-step : (plan : Plan) (o : Opening) (steps : List Told) (pairs : List (List ℕ × List ℕ)) (x : Told) → IsSafe plan o steps pairs → IsSafe plan o (steps ++ x ∷ []) pairs
-safe-step plan o steps pairs x safe =
-    let p = stores plan (setting_of plan o) safe.notes in
-    record {
-      mine = safe.mine ++ x ∷ [];
-      notes = safe.notes;
-      steps_are = ap (λ xs. xs ++ x ∷ []) safe.steps_are ∙ append_assoc o.steps safe.mine (x ∷ []);
-      put = safe.put;
-      unput = safe.unput ++ filter p (told_ends (x ∷ []));
-      pairs_are = safe.pairs_are;
-      due = ap (filter p) (told-push safe.mine x) ∙ filter-append p (told_ends safe.mine) (told_ends (x ∷ [])) ∙ ap (λ xs. xs ++ filter p (told_ends (x ∷ []))) safe.due ∙ append_assoc safe.put safe.unput (filter p (told_ends (x ∷ [])));
-      good = safe.good;
-    }

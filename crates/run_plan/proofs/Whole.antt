@@ -12,7 +12,7 @@ use Rattle.run_plan.proofs.Standing.{silent}
 use Rattle.std.proofs.lemmas.Bool.{true≢false}
 use Rattle.run_plan.proofs.Arms.{arm-pass, arm-miss, arm-hit, arm-start}
 use Rattle.run_plan.proofs.Ending.{arm-end}
-use Rattle.run_plan.proofs.Closing.{has-less, is-shown, is-hidden, goes-on, summary-told, blocks-kept, is-over, is-safe, safe-step}
+use Rattle.run_plan.proofs.Closing.{has-less, is-shown, is-hidden, goes-on, summary-told, blocks-kept, is-over}
 
 pub story-law : Laws → StoryLaw
 story-law laws = record {
@@ -42,6 +42,4 @@ story-law laws = record {
   shown = λ plan o now logs stands same. goes-on laws plan o now stands logs same;
   summary = λ plan o now stands. summary-told laws plan o now stands;
   kept = blocks-kept;
-  safe = λ plan o now stands. is-safe laws plan o now stands;
-  safe_step = λ plan o steps pairs x safe. safe-step plan o steps pairs x safe;
 }

@@ -9,7 +9,7 @@ use Rattle.run_laws.specs.Ancestors.{part_at, has_script}
 use Rattle.run_laws.specs.Marks.{found_for}
 use Rattle.run_plan.specs.declared.plan.Plan.{Plan}
 use Rattle.run_plan.specs.Plans.{id_at, bypasses}
-use Rattle.run_plan.specs.Pages.{print_of, IsCut}
+use Rattle.run_plan.specs.Pages.{digits_of, IsCut}
 
 -- what these pairs hold of a task, where a run would ask for it
 abbrev pub dry_mark : Plan → List Pair → ℕ → DryMark
@@ -26,11 +26,11 @@ own_script part = own_of part.scripts
 
 -- the lines of a task with these digits and this mark; its direct dependencies stand in the order of the plan
 unfoldable pub dry_text : Plan → ℕ → List ℕ → DryMark → List ℕ
-dry_text plan t print mark = dry_block_text (id_at plan t) print mark (own_script (part_at plan.listing t)) (map (id_at plan) (part_at plan.listing t).deps)
+dry_text plan t digits mark = dry_block_text (id_at plan t) digits mark (own_script (part_at plan.listing t)) (map (id_at plan) (part_at plan.listing t).deps)
 
 -- the lines of a task
 abbrev pub dry_block : Plan → List Pair → ℕ → List ℕ
-dry_block plan pairs t = dry_text plan t (print_of plan t) (dry_mark plan pairs t)
+dry_block plan pairs t = dry_text plan t (digits_of plan t) (dry_mark plan pairs t)
 
 -- the blocks of the first n places, in the order of the plan
 abbrev pub dry_blocks : Plan → List Pair → ℕ → List ℕ

@@ -9,3 +9,5 @@ pub mod Reports
 pub mod Answers
 pub mod Stories
 pub mod StoryLaws
+pub mod Halts
+pub mod Costs

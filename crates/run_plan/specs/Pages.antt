@@ -32,20 +32,20 @@ page_mark Miss = printed_mark.Miss
 page_mark Bypass = printed_mark.Bypass
 
 -- the digits of the fingerprint of a key
-abbrev pub print_for : List ℕ → List ℕ
-print_for key = printed (sha256 key)
+abbrev pub digits_for : List ℕ → List ℕ
+digits_for key = printed (sha256 key)
 
 -- those of the task's key
-abbrev pub print_of : Plan → ℕ → List ℕ
-print_of plan t = print_for (key_of plan.listing t)
+abbrev pub digits_of : Plan → ℕ → List ℕ
+digits_of plan t = digits_for (key_of plan.listing t)
 
 -- the lines of a task
 abbrev pub block_of : Plan → ℕ → Report → List ℕ → List ℕ
-block_of plan t report log = block_text (id_at plan t) report.mark report.print log report.status report.note (log_mode plan t)
+block_of plan t report log = block_text (id_at plan t) report.mark report.digits log report.status report.note (log_mode plan t)
 
 -- what is said of the task at the place, with this note
 abbrev pub report_of : Plan → Setting → Note → ℕ → Report
-report_of plan s note t = record { mark = page_mark (mark_at s t); print = print_of plan t; status = (effect_at s t).status; note = note }
+report_of plan s note t = record { mark = page_mark (mark_at s t); digits = digits_of plan t; status = (effect_at s t).status; note = note }
 
 -- the task has a block: it has a script and is reported
 abbrev pub shows : Plan → (ℕ → Bool) → ℕ → Bool

@@ -81,10 +81,6 @@ KeptAs files outs limit key log before room after (Shared path) = SharesFirst fi
 KeptAs files outs limit key log before room after (Large path) = LargeFirst files outs limit path × (after ≡ before)
 KeptAs files outs limit key log before room after Full = (taken : List File) × Taken files outs limit taken × (room < ample (pair_for key (log, taken))) × (after ≡ before)
 
--- after a fault the result may have been put or not
-abbrev pub MayBeKept : FileMap → OutSet → ℕ → List ℕ → List ℕ → List Pair → List Pair → Type 0
-MayBeKept files outs limit key log before after = (after ≡ before) ⊎ ((taken : List File) × Taken files outs limit taken × (after ≡ before ++ pair_for key (log, taken) ∷ []))
-
 -- ---- notes and pairs of a run
 
 -- the note of a task: a reason where its result was to be put, else none

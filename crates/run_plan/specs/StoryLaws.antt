@@ -30,9 +30,8 @@ use Rattle.run_plan.specs.Plans.{IsValidPlan, caches, bypasses}
 use Rattle.run_plan.specs.Commands.{command_of}
 use Rattle.run_plan.specs.Openings.{Opening, setting_of, rules_of, tasks_of}
 use Rattle.run_plan.specs.Results.{effect_at, step_of, KeptAs, NotedAs, ends_of, due_pairs}
-use Rattle.run_plan.specs.Pages.{print_of, block_of, blocks, summary_of, worst, page}
+use Rattle.run_plan.specs.Pages.{digits_of, block_of, blocks, summary_of, worst, page}
 use Rattle.run_plan.specs.Reports.{worst_by, summary_by}
-use Rattle.run_plan.specs.Answers.{IsSafe}
 use Rattle.run_plan.specs.Stories.{Now, Story, notes_in}
 
 -- what the command of the task sees is what the listing says
@@ -58,17 +57,30 @@ to_put plan sound t status = sound && ((status == 0) && caches plan t)
 abbrev pub KeptIf : Bool → Type 0 → Note → List Pair → List Pair → Type 0
 KeptIf put Kept note before after = MatchBool put Kept ((note ≡ Stored) × (after ≡ before))
 
--- The end of a command, as its effect says; its log was written, and its result was kept.
-pub record EndIs (plan : Plan) (now : Now) (end : Ended) (sound : Bool) (note : Note) (pairs : List Pair) (room : ℕ) (report : Report) : Type 0 where
+-- The end of a command that runs, as its effect says; `sound` tells whether its ancestors came to a good end.
+pub record EndsNow (plan : Plan) (now : Now) (end : Ended) (sound : Bool) : Type 0 where
   pub running : now.states end.place ≡ Running
   pub status : end.status ≡ (now.will end.place).status
   pub log : end.log ≡ (now.will end.place).log
   pub sound_is : TellsGood plan now.states end.place sound
+
+-- Such an end, whose log was written, and whose result was kept.
+pub record EndIs (plan : Plan) (now : Now) (end : Ended) (sound : Bool) (note : Note)
+    (pairs : List Pair) (room : ℕ) (report : Report) : Type 0 where
+  pub ends : EndsNow plan now end sound
   pub kept : KeptIf (to_put plan sound end.place end.status)
-      (KeptAs (logged (part_at plan.listing end.place) end.log (over now.files (file_at (now.will end.place).files))) (part_at plan.listing end.place).outs plan.limit (key_of plan.listing end.place) end.log now.pairs room pairs note)
+      (KeptAs (logged (part_at plan.listing end.place) end.log
+      (over now.files (file_at (now.will end.place).files)))
+      (part_at plan.listing end.place).outs plan.limit (key_of plan.listing end.place) end.log
+      now.pairs room pairs note)
       note now.pairs pairs
   pub less : room ≤ now.room
-  pub report_is : report ≡ record { mark = if bypasses plan end.place then printed_mark.Bypass else printed_mark.Miss; print = print_of plan end.place; status = end.status; note = note }
+  pub report_is : report ≡ record {
+    mark = if bypasses plan end.place then printed_mark.Bypass else printed_mark.Miss;
+    digits = digits_of plan end.place;
+    status = end.status;
+    note = note;
+  }
 
 -- where the run is after such an end
 abbrev pub after_this : Plan → Now → Ended → (ℕ → Effect) → List Pair → ℕ → Report → Now
@@ -122,7 +134,7 @@ pub record StoryLaw : Type 0 where
         states = put now.states t Passed;
         files = logged (part_at plan.listing t) artifact.0 (restored (part_at plan.listing t).outs artifact.1 now.files);
         room = room;
-        reports = put_at now.reports t (Some (record { mark = printed_mark.Hit; print = print_of plan t; status = 0; note = Stored }));
+        reports = put_at now.reports t (Some (record { mark = printed_mark.Hit; digits = digits_of plan t; status = 0; note = Stored }));
         logs = put_at now.logs t artifact.0;
       })
   -- the command of a task starts
@@ -152,6 +164,3 @@ pub record StoryLaw : Type 0 where
   pub summary : (plan : Plan) (o : Opening) (now : Now) → Stands plan o now → summary_by plan now.reports ≡ summary_of plan (setting_of plan o) (λ t. is_done (now.states t))
   -- what was put stays as it is
   pub kept : (plan : Plan) (o : Opening) (now later : Now) (n : ℕ) → ((u : ℕ) → u < n → (later.states u ≡ now.states u) × (later.reports u ≡ now.reports u)) → blocks_upto plan o later n ≡ blocks_upto plan o now n
-  -- what holds at each moment
-  pub safe : (plan : Plan) (o : Opening) (now : Now) → Stands plan o now → IsSafe plan o now.steps now.pairs
-  pub safe_step : (plan : Plan) (o : Opening) (steps : List Told) (pairs : List Pair) (step : Told) → IsSafe plan o steps pairs → IsSafe plan o (steps ++ step ∷ []) pairs

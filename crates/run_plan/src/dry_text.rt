@@ -45,16 +45,16 @@ impl Plan {
         &self,
         alloc: Global,
         place: u32,
-        print: &Text,
+        digits: &Text,
         mark: DryMark,
     ) -> Result<Bytes, PlanErr>
         requires plan { IsValidPlan self.now }
         requires place { place < length self.now.listing.parts }
-        ensures text { IfOk result (λ bytes. bytes ≡ dry_text self.now place print.now mark) }
+        ensures text { IfOk result (λ bytes. bytes ≡ dry_text self.now place digits.now mark) }
         ensures memory { OnlyMemory result }
     {
         let part = self.part(place);
         let deps = self.tasks(alloc, part.deps.as_slice())?;
-        Ok(dry_block(alloc, self.id(place), print, mark, own_script(part), &deps)?)
+        Ok(dry_block(alloc, self.id(place), digits, mark, own_script(part), &deps)?)
     }
 }

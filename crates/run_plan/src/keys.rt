@@ -2,12 +2,12 @@
 ghost use Rattle.std.specs.Prelude.{◌≡◌, ◌<◌, length, IfOk};
 ghost use Rattle.run_laws.specs.Keys.{key_of};
 ghost use Rattle.run_plan.specs.Memory.{OnlyMemory};
-ghost use Rattle.run_plan.specs.Pages.{print_for};
+ghost use Rattle.listing.specs.Fingerprint.{printed};
 ghost use Rattle.run_plan.specs.Plans.{IsValidPlan};
 
 use crate::{Plan, PlanErr};
 use closures::closure;
-use listing::{fingerprint, key_text, short};
+use listing::{key_text, short};
 use rel_path::{Bytes, Text};
 use std::alloc::Global;
 
@@ -25,11 +25,10 @@ impl Plan {
     }
 }
 
-/// The digits that are printed of the fingerprint of a key.
-pub fn print_of(alloc: Global, key: &[u8]) -> Result<Text, PlanErr>
-    ensures print { IfOk result (λ text. text ≡ print_for key.now) }
+/// The digits that are printed of a fingerprint.
+pub fn digits(alloc: Global, fingerprint: &[u8; 32]) -> Result<Text, PlanErr>
+    ensures digits { IfOk result (λ text. text ≡ printed fingerprint.now) }
     ensures memory { OnlyMemory result }
 {
-    let print = fingerprint(key);
-    Ok(short(alloc, &print)?)
+    Ok(short(alloc, fingerprint)?)
 }

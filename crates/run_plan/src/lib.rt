@@ -20,7 +20,7 @@ mod reports;
 mod tables;
 
 pub use error::PlanErr;
-pub use keys::print_of;
+pub use keys::digits;
 pub use laws::story_law;
 pub use lists::{PairLists, TaskDefs};
 pub use plan::Plan;

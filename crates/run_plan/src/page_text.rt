@@ -66,7 +66,7 @@ impl Plan {
             alloc,
             id,
             report.mark,
-            &report.print,
+            &report.digits,
             log,
             report.status,
             &report.note,

@@ -10,7 +10,7 @@ use rel_path::Text;
 #[derive(Debug, Drop)]
 pub struct Report {
     pub mark: Mark,
-    pub print: Text,
+    pub digits: Text,
     pub status: u8,
     pub note: Note,
 }
