@@ -1,5 +1,5 @@
 -- What the tables of a run keep.
-use Rattle.std.proofs.Common.{◌≡◌, ◌≢◌, ℕ, suc, ◌<◌, ◌==◌, ◌||◌, ◌&&◌, Bool, true, false, cond, List, [], ◌∷◌, length, refl, sym, ap, ◌∙◌, subst, arith, inl, inr}
+use Rattle.std.proofs.Common.{◌≡◌, ◌≢◌, ℕ, suc, ◌<◌, ◌==◌, ◌||◌, ◌&&◌, Bool, true, false, cond, List, [], ◌∷◌, length, refl, sym, ap, ◌∙◌, subst, arith, inl, inr, Option, Some, None}
 use mathlib.Core.Path.{fun_ext}
 use Rattle.std.specs.Prelude.{map, slice_index_or}
 use Rattle.std.specs.List.{list_all}
@@ -31,7 +31,7 @@ use Rattle.run_plan.specs.Stories.{is_settled}
 use Rattle.run_plan.specs.StoryLaws.{TellsGood}
 use Rattle.run_plan.proofs.Steps.{split, leads-same}
 use Rattle.run_plan.proofs.Ending.{end-split, unknown-undone}
-use Rattle.runner.specs.Boards.{IsFlag}
+use Rattle.runner.specs.Boards.{IsFlag, IsKnown}
 use Rattle.runner.specs.Tables.{flag_in}
 
 -- ---- states
@@ -272,3 +272,19 @@ other-reports st t old new x bare is u h = ap (λ f. f u) is ∙ (elim (cases_eq
   | inl e ↦ absurd (true≢false (sym h ∙ ap (λ v. is_settled (st v)) e ∙ bare))
   | inr d ↦ rw (ne_eqb u t d) refl
 ])
+
+-- ---- fingerprints
+
+pub none-known : (plan : Plan) (known : ℕ → Option (List ℕ)) → known ≡ (λ t. None) → (t : ℕ)
+    → IsKnown plan t (known t)
+none-known plan known none t print is = absurd (differ (ap (λ f. f t) (sym none) ∙ is))
+  where
+    differ : None ≡ Some print → ⊥
+    differ h = cc
+
+pub known-set : (plan : Plan) (t : ℕ) (old new : ℕ → Option (List ℕ)) (one : Option (List ℕ))
+    → new ≡ put_at old t one → IsKnown plan t one → ((u : ℕ) → IsKnown plan u (old u)) → (u : ℕ)
+    → IsKnown plan u (new u)
+known-set plan t old new one is here each u =
+    subst (λ f. IsKnown plan u (f u)) (sym is)
+    (split (λ u b. IsKnown plan u (cond b one (old u))) t here (λ u d. each u) u)

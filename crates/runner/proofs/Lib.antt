@@ -1,5 +1,1 @@
-mod FileFacts
 mod BoardFacts
-mod WorldFacts
-mod ToldFacts
-mod PageFacts

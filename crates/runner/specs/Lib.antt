@@ -1,6 +1,7 @@
-pub mod Stops
 pub mod Tables
-pub mod Devices
-pub mod Keeping
 pub mod Boards
+pub mod Running
+pub mod Progress
 pub mod Answers
+pub mod Halting
+pub mod Costs

@@ -4,18 +4,7 @@
 #![tactic(auto)]
 
 mod board;
-mod devices;
-mod dry_run;
-mod ending;
-mod error;
-mod looking;
 mod moves;
-mod running;
-mod showing;
-mod starting;
 mod tables;
-mod turns;
 
-pub use dry_run::dry;
-pub use error::RunErr;
-pub use running::run;
+pub use task_devices::RunErr;

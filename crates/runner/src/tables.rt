@@ -1,13 +1,13 @@
-// Tables of logs and flags, with room for each task of a plan.
-ghost use Rattle.std.specs.Prelude.{◌≡◌, ◌<◌, ◌^◌, ℕ, [], false, length, IfOk};
+// Tables of logs, flags and fingerprints, with room for each task of a plan.
+ghost use Rattle.std.specs.Prelude.{◌≡◌, ◌<◌, ◌^◌, ℕ, [], false, length, None, IfOk};
 ghost use Rattle.spawn_dev.specs.Spawn.{put_at};
-ghost use Rattle.runner.specs.Tables.{log_in, flag_in};
-ghost use Rattle.runner.specs.Stops.{OnlyMemory};
+ghost use Rattle.task_devices.specs.Stops.{OnlyMemory};
+ghost use Rattle.runner.specs.Tables.{log_in, flag_in, fingerprint_in};
 
-use crate::RunErr;
 use rel_path::Bytes;
 use std::alloc::Global;
 use std::marker::Model;
+use task_devices::RunErr;
 
 /// The log of each task that is still to be shown.
 #[derive(Drop)]
@@ -99,5 +99,45 @@ impl Flags {
         ensures set { flag_in self.new ≡ put_at (flag_in self.old) place flag }
     {
         self.items[place] = flag;
+    }
+}
+
+/// The fingerprint of each task's key where it is known, of none at first.
+#[derive(Drop)]
+pub struct Fingerprints {
+    items: Vec<Option<[u8; 32]>>,
+}
+
+impl Model for Fingerprints {
+    ghost use Rattle.std.specs.Prelude.{List, Option, ℕ};
+
+    ghost Value = { List (Option (List ℕ)) };
+
+    ghost view = { λ f. f.items.items };
+}
+
+impl Fingerprints {
+    pub fn new(alloc: Global, size: usize) -> Result<Fingerprints, RunErr>
+        ensures size { IfOk result (λ table. length table ≡ size) }
+        ensures none { IfOk result (λ table. fingerprint_in table ≡ (λ t. None)) }
+        ensures memory { OnlyMemory result }
+    {
+        Ok(Fingerprints {
+            items: vec![in alloc; None; size]?,
+        })
+    }
+
+    pub fn at(&self, place: usize) -> Option<[u8; 32]>
+        ensures { result ≡ fingerprint_in self.now place }
+    {
+        self.items.get(place).copied().unwrap_or(None)
+    }
+
+    pub fn set(&mut self, place: usize, fingerprint: Option<[u8; 32]>)
+        requires { place < length self.old }
+        ensures size { length self.new ≡ length self.old }
+        ensures set { fingerprint_in self.new ≡ put_at (fingerprint_in self.old) place fingerprint }
+    {
+        self.items[place] = fingerprint;
     }
 }

@@ -1,0 +1,76 @@
+-- What calls of a run leave, whatever they answer, and what a run leaves that stops.
+use Rattle.std.specs.Prelude.{◌≡◌, ℕ, true, false, List, Option}
+use Rattle.rel_path.specs.Files.{FileMap}
+use Rattle.tree_dev.specs.Tree.{TreeState}
+use Rattle.cache_api.specs.Cache.{CacheState, Keeps}
+use Rattle.cache_api.specs.Moments.{Moment}
+use Rattle.cache_api.specs.Pairs.{Pair}
+use Rattle.spawn_dev.specs.Spawn.{Runs, live}
+use Rattle.run_core.specs.declared.states.Step.{Step}
+use Rattle.run_core.specs.declared.states.State.TheVariants.{Running}
+use Rattle.run_core.specs.Greedy.{ended}
+use Rattle.run_plan.specs.declared.plan.Plan.{Plan}
+use Rattle.run_plan.specs.Answers.{Cause, IsTornPage, SameElsewhere}
+use Rattle.run_plan.specs.Halts.{HaltsWith}
+use Rattle.run_plan.specs.Openings.{Opening}
+use Rattle.run_plan.specs.Stories.{Now, notes_in}
+use Rattle.run_plan.specs.StoryLaws.{Stands}
+use Rattle.runner.specs.Answers.{Grows, LeavesFurther}
+use Rattle.runner.specs.Progress.{PageIs}
+use Rattle.runner.specs.Running.{AreOurs}
+
+-- ---- whatever it answers
+
+-- What runs are commands of the plan, steps are only added, and no file of others was changed.
+pub record WorldGoes {B R : Type 0} (tells : Type 0) (plan : Plan) (old new : Runs B)
+    (before after : TreeState R) : Type 0 where
+  pub book : new.book ≡ old.book
+  pub ours : AreOurs plan new
+  pub further : tells → Grows old.steps new.steps
+  pub elsewhere : tells → SameElsewhere plan before.files after.files
+
+-- Pairs are only added to the cache, at each moment.
+pub record CacheGoes {D S X : Type 0} (tells : Type 0) (state : S → CacheState D)
+    (moment : S → Moment) (left : S → Moment → X → Type 0) (says : D → X → Option (List Pair))
+    (old new : S) : Type 0 where
+  pub keeps : Keeps (state old) (state new)
+  pub grows : tells → Grows (state old).pairs (state new).pairs
+  pub images : tells → LeavesFurther state moment left says old new
+
+-- ---- a run that stops
+
+-- The command runs by the states, its end is not among these, and it will do what it would have done.
+pub record StillRuns {B : Type 0} (now : Now) (late : List Step) (world : Runs B) (t : ℕ)
+    : Type 0 where
+  pub running : now.states t ≡ Running
+  pub unended : ended late t ≡ false
+  pub will : world.will t ≡ now.will t
+
+-- A run that came this far has stopped, and some of its commands may still run.
+pub record HaltsNow {B : Type 0} (plan : Plan) (o : Opening) (now : Now) (world : Runs B)
+    (files : FileMap) (pairs : List Pair) (room : ℕ) : Type 0 where
+  pub late : List Step
+  pub halts : HaltsWith plan o now files pairs room world.steps late
+  pub runs : (t : ℕ) → live world t ≡ true → StillRuns now late world t
+
+-- so does each run that came this far
+abbrev pub HaltsFrom : {B : Type 0} → Plan → Now → Runs B → FileMap → List Pair → ℕ → Type 0
+HaltsFrom plan now world files pairs room =
+    (o : Opening) → Stands plan o now → HaltsNow plan o now world files pairs room
+
+-- The run has stopped where it came last, and its page is torn there.
+pub record StopsNow {B : Type 0} (plan : Plan) (o : Opening) (world : Runs B) (files : FileMap)
+    (pairs : List Pair) (room : ℕ) (cause : Cause) (Heard : Type 0) (before after : List ℕ)
+    : Type 0 where
+  pub now : Now
+  pub stands : Stands plan o now
+  pub halts : HaltsNow plan o now world files pairs room
+  pub page_is : Heard → IsTornPage plan o now.states (notes_in now.reports) cause before after
+
+-- so does each run that came this far and printed this
+abbrev pub StopsFrom : {B : Type 0} → Plan → Now → Runs B → FileMap → List Pair → ℕ → Cause
+    → Type 0 → List ℕ → List ℕ → Type 0
+StopsFrom plan now world files pairs room cause Heard written after =
+    (o : Opening) (before : List ℕ) → Stands plan o now
+    → (Heard → PageIs plan o now before written)
+    → StopsNow plan o world files pairs room cause Heard before after
