@@ -1,1 +1,3 @@
 mod BoardFacts
+mod StoryFacts
+mod PageFacts

@@ -5,6 +5,7 @@
 
 mod board;
 mod moves;
+mod showing;
 mod tables;
 
 pub use task_devices::RunErr;
