@@ -1,3 +1,11 @@
 mod BoardFacts
 mod StoryFacts
 mod PageFacts
+mod CacheFacts
+mod CostFacts
+mod WorldFacts
+mod HeldFacts
+mod FileFacts
+mod HaltFacts
+mod GoesFacts
+mod StartFacts

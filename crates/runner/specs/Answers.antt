@@ -14,6 +14,7 @@ use Rattle.run_plan.specs.declared.plan.Plan.{Plan}
 use Rattle.run_plan.specs.Answers.{Cause, IsSafe}
 use Rattle.run_plan.specs.Answers.Cause.{Device, Output, Memory}
 use Rattle.run_plan.specs.Openings.{Opening}
+use Rattle.task_devices.specs.Keeping.{IsFurther}
 use Rattle.task_devices.specs.declared.error.RunErr.{RunErr}
 use Rattle.task_devices.specs.declared.error.RunErr.TheVariants.{TreeFault, StoreFault, StartFault, SinkFault, OutOfMemory}
 
@@ -48,10 +49,6 @@ is_start_fault OutOfMemory = false
 -- these, and more behind them
 abbrev pub Grows : {X : Type 0} → List X → List X → Type 0
 Grows {X} old new = (more : List X) × (new ≡ old ++ more)
-
--- a crash leaves these pairs, and more behind them
-abbrev pub IsFurther : List Pair → Option (List Pair) → Type 0
-IsFurther pairs said = (more : List Pair) × (said ≡ Some (pairs ++ more))
 
 -- a crash leaves pairs that a run may leave which has come to these steps
 abbrev pub HasSafePairs : Plan → Opening → ℕ → List Told → Option (List Pair) → Type 0

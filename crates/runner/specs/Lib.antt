@@ -5,3 +5,4 @@ pub mod Progress
 pub mod Answers
 pub mod Halting
 pub mod Costs
+pub mod Ends

@@ -4,8 +4,10 @@
 #![tactic(auto)]
 
 mod board;
+mod looking;
 mod moves;
 mod showing;
+mod starting;
 mod tables;
 
 pub use task_devices::RunErr;
