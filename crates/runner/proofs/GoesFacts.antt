@@ -1,11 +1,12 @@
 -- What calls leave of a world, one after another.
-use Rattle.std.proofs.Common.{◌≡◌, ℕ, List, refl, sym, ap, ◌∙◌, subst}
+use Rattle.std.proofs.Common.{◌≡◌, ◌≤◌, ℕ, List, [], refl, sym, ap, ◌∙◌, subst, append-nil}
 use Rattle.tree_dev.specs.Tree.{TreeState}
 use Rattle.cache_api.specs.Pairs.{Pair}
 use Rattle.spawn_dev.specs.declared.command.Step.{Step as Told}
 use Rattle.spawn_dev.specs.Spawn.{Runs}
 use Rattle.run_plan.specs.declared.plan.Plan.{Plan}
 use Rattle.run_plan.specs.Answers.{IsSafe, SameElsewhere}
+use Rattle.run_plan.specs.Halts.{HaltLaw}
 use Rattle.run_plan.specs.Openings.{Opening}
 use Rattle.runner.specs.Halting.{WorldGoes}
 use Rattle.runner.specs.Running.{AreOurs}
@@ -44,3 +45,11 @@ pub safe-steps : (plan : Plan) (o : Opening) (room : ℕ) (old new : List Told) 
     → new ≡ old → IsSafe plan o room old pairs → IsSafe plan o room new pairs
 safe-steps plan o room old new pairs same safe =
     subst (λ list. IsSafe plan o room list pairs) (sym same) safe
+
+-- and with less room
+pub safe-less : (law : HaltLaw) (plan : Plan) (o : Opening) (room less : ℕ)
+    (old new : List Told) (pairs : List Pair) → less ≤ room → new ≡ old
+    → IsSafe plan o room old pairs → IsSafe plan o less new pairs
+safe-less law plan o room less old new pairs le same safe =
+    subst (λ list. IsSafe plan o less list pairs) (append-nil old ∙ sym same)
+    (law.safe_later plan o room less old [] pairs le safe)

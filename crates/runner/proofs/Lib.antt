@@ -9,3 +9,4 @@ mod FileFacts
 mod HaltFacts
 mod GoesFacts
 mod StartFacts
+mod EndFacts

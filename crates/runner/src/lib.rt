@@ -4,6 +4,7 @@
 #![tactic(auto)]
 
 mod board;
+mod ending;
 mod looking;
 mod moves;
 mod showing;

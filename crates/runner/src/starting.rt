@@ -2,7 +2,7 @@
 ghost use Rattle.std.specs.Prelude.{◌≡◌, ◌<◌, ℕ, List, length, OnOk, OnErr};
 ghost use Rattle.cache_api.specs.Pairs.{Pair};
 ghost use Rattle.run_core.specs.Core.{rules, states};
-ghost use Rattle.run_core.specs.Machine.{next, IsCalm};
+ghost use Rattle.run_core.specs.Machine.{next, put, IsCalm};
 ghost use Rattle.run_plan.specs.Answers.{IsSafe};
 ghost use Rattle.run_plan.specs.Halts.{HaltLaw};
 ghost use Rattle.run_plan.specs.Openings.{Opening, rules_of};
@@ -15,7 +15,7 @@ ghost use Rattle.runner.specs.Progress.{StaysOn, now_at};
 ghost use Rattle.runner.specs.Running.{InStep};
 
 use crate::board::Board;
-use run_core::Next;
+use run_core::{Next, State};
 use run_laws::closure_is_valid;
 use run_plan::{Plan, story_law};
 use spawn_dev::Spawner;
@@ -38,6 +38,8 @@ pub fn begin<W: Spawner>(
     requires calm { IsCalm (rules_of plan.now) (states board.old.core) }
     requires next { next (rules board.old.core) (states board.old.core) ≡ Next.Start place }
     ensures moved { OnOk result (IsMove plan.now board.old board.new) }
+    ensures begun { OnOk result (states board.new.core
+        ≡ put (states board.old.core) place State.Running) }
     ensures steps { OnOk result (InStep plan.now (states board.new.core) (W.runs world.new)) }
     ensures world { WorldGoes W.tells plan.now (W.runs world.old) (W.runs world.new)
         (W.state world.old) (W.state world.new) }
