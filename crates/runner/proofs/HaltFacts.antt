@@ -32,7 +32,7 @@ use Rattle.runner.proofs.WorldFacts.{running-is, there-is}
 
 -- ---- what runs after an end
 
-gone : {B : Type 0} (old new : Runs B) (place : ℕ) → new.at ≡ put_at old.at place None → (t : ℕ)
+pub gone : {B : Type 0} (old new : Runs B) (place : ℕ) → new.at ≡ put_at old.at place None → (t : ℕ)
     → live new t ≡ true → (t ≢ place) × (live old t ≡ true)
 gone old new place at t lives = elim (cases_eq t place) [
   | inl e ↦ absurd (true≢false (sym (rw (eq-eqb t place e) at (ap (λ f. is_some (f t)) (sym at) ∙ lives))))

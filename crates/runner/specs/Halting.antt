@@ -1,10 +1,12 @@
 -- What calls of a run leave, whatever they answer, and what a run leaves that stops.
-use Rattle.std.specs.Prelude.{◌≡◌, ℕ, true, false, List, Option}
+use Rattle.std.specs.Prelude.{◌≡◌, ℕ, true, false, List, ◌++◌, Option}
+use Rattle.std.specs.List.{list_any}
 use Rattle.rel_path.specs.Files.{FileMap}
 use Rattle.tree_dev.specs.Tree.{TreeState}
 use Rattle.cache_api.specs.Cache.{CacheState, Keeps}
 use Rattle.cache_api.specs.Moments.{Moment}
 use Rattle.cache_api.specs.Pairs.{Pair}
+use Rattle.spawn_dev.specs.declared.command.Step.{Step as Told}
 use Rattle.spawn_dev.specs.Spawn.{Runs, live}
 use Rattle.run_core.specs.declared.states.Step.{Step}
 use Rattle.run_core.specs.declared.states.State.TheVariants.{Running}
@@ -15,7 +17,7 @@ use Rattle.run_plan.specs.Halts.{HaltsWith}
 use Rattle.run_plan.specs.Openings.{Opening}
 use Rattle.run_plan.specs.Stories.{Now, notes_in}
 use Rattle.run_plan.specs.StoryLaws.{Stands}
-use Rattle.runner.specs.Answers.{Grows, LeavesFurther}
+use Rattle.runner.specs.Answers.{Grows, LeavesFurther, ends_at}
 use Rattle.runner.specs.Progress.{PageIs}
 use Rattle.runner.specs.Running.{AreOurs}
 
@@ -74,3 +76,10 @@ StopsFrom plan now world files pairs room cause Heard written after =
     (o : Opening) (before : List ℕ) → Stands plan o now
     → (Heard → PageIs plan o now before written)
     → StopsNow plan o world files pairs room cause Heard before after
+
+-- All that ran was waited for: where each command that ran has its end among the steps that were added, nothing failed.
+pub record WaitsFor {B : Type 0} (old new : Runs B) : Type 0 where
+  pub late : List Told
+  pub steps_are : new.steps ≡ old.steps ++ late
+  pub calm : ((t : ℕ) → live old t ≡ true → list_any (ends_at t) late ≡ true)
+      → new.faults ≡ old.faults

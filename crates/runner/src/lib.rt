@@ -10,5 +10,6 @@ mod moves;
 mod showing;
 mod starting;
 mod tables;
+mod turns;
 
 pub use task_devices::RunErr;
