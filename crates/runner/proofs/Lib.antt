@@ -10,3 +10,5 @@ mod HaltFacts
 mod GoesFacts
 mod StartFacts
 mod EndFacts
+mod DrainFacts
+mod RoundFacts

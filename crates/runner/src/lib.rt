@@ -4,9 +4,11 @@
 #![tactic(auto)]
 
 mod board;
+mod draining;
 mod ending;
 mod looking;
 mod moves;
+mod rounds;
 mod showing;
 mod starting;
 mod tables;
