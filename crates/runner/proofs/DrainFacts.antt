@@ -217,8 +217,8 @@ calm-some is_fault before now (Err e) counted = tt
 pub starts-calm : (a b d e w x y z : ℕ) (error : RunErr)
     → is_start_fault error ≡ false
     → StopsBy {T = ℕ} (faults_of a b d e) (faults_of w x y z) (Err error) → y ≡ d
-starts-calm a b d e w x y z TreeFault other h = h.2.1
-starts-calm a b d e w x y z StoreFault other h = h.2.1
+starts-calm a b d e w x y z TreeFault other h = h.2
+starts-calm a b d e w x y z StoreFault other h = h.2
 starts-calm a b d e w x y z StartFault other h = absurd (true≢false other)
-starts-calm a b d e w x y z SinkFault other h = h.2.2
+starts-calm a b d e w x y z SinkFault other h = h.3
 starts-calm a b d e w x y z OutOfMemory other h = ap (λ f. f.start) h

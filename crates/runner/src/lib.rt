@@ -9,9 +9,11 @@ mod ending;
 mod looking;
 mod moves;
 mod rounds;
+mod running;
 mod showing;
 mod starting;
 mod tables;
 mod turns;
 
+pub use running::run;
 pub use task_devices::RunErr;

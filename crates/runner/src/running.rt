@@ -1,0 +1,151 @@
+// A whole run.
+ghost use Rattle.std.specs.Prelude.{◌≡◌, ◌+◌, ◌≤◌, false, IsTrue, IfOk, IfErr, OnOk};
+ghost use Rattle.cache_api.specs.Cache.{Keeps};
+ghost use Rattle.run_laws.specs.Runs.{IsReady};
+ghost use Rattle.run_plan.specs.Answers.{Ran, Stopped, SameElsewhere};
+ghost use Rattle.run_plan.specs.Costs.{look_up_cost};
+ghost use Rattle.run_plan.specs.Halts.{HaltLaw};
+ghost use Rattle.run_plan.specs.Openings.{setting_of, HoldsInputs};
+ghost use Rattle.run_plan.specs.Plans.{IsValidPlan};
+ghost use Rattle.spawn_dev.specs.Spawn.{IsIdle};
+ghost use Rattle.task_devices.specs.Stops.{faults_of, StopsBy, EndsBy};
+ghost use Rattle.runner.specs.Answers.{AllEnd, Grows, LeavesFurther, LeavesSafe, cause_of, is_start_fault, opening_of};
+ghost use Rattle.runner.specs.Halting.{CacheGoes, StopsNow, WorldGoes};
+
+use crate::board::Board;
+use crate::draining::drain;
+use crate::rounds::rounds;
+use crate::showing::conclude;
+use cache_api::Cache;
+use run_plan::{Plan, story_law};
+use spawn_dev::Spawner;
+use std::alloc::Global;
+use task_devices::RunErr;
+use tree_dev::Sink;
+
+// A run, which may stop while commands run.
+fn run_through<W: Spawner, C: Cache, K: Sink>(
+    alloc: Global,
+    plan: &Plan,
+    world: &mut W,
+    cache: &mut C,
+    out: &mut K,
+) -> Result<u8, RunErr>
+    requires halts { HaltLaw }
+    requires plan { IsValidPlan plan.now }
+    requires idle { IsIdle (W.runs world.old) }
+    requires whole { IsTrue (C.state cache.old).whole }
+    ensures idle { OnOk result (IsIdle (W.runs world.new)) }
+    ensures whole { OnOk result (IsTrue (C.state cache.new).whole) }
+    ensures world { WorldGoes W.tells plan.now (W.runs world.old) (W.runs world.new)
+        (W.state world.old) (W.state world.new) }
+    ensures cache { CacheGoes C.tells C.state C.moment C.left C.says cache.old cache.new }
+    ensures ran { W.tells → C.tells → IsReady (setting_of plan.now
+        (opening_of W.effect (W.runs world.old) (W.state world.old) (C.state cache.old)))
+        → IfOk result (Ran plan.now
+        (opening_of W.effect (W.runs world.old) (W.state world.old) (C.state cache.old))
+        (W.state world.new).files (C.state cache.new).pairs (C.state cache.new).room
+        (W.runs world.new).steps K.tells (K.written out.old) (K.written out.new)) }
+    ensures stops { W.tells → C.tells → IsReady (setting_of plan.now
+        (opening_of W.effect (W.runs world.old) (W.state world.old) (C.state cache.old)))
+        → IfErr result (λ e. StopsNow plan.now
+        (opening_of W.effect (W.runs world.old) (W.state world.old) (C.state cache.old))
+        (W.runs world.new) (W.state world.new).files (C.state cache.new).pairs
+        (C.state cache.new).room (cause_of e) K.tells (K.written out.old) (K.written out.new)) }
+    ensures left { W.tells → C.tells → IsReady (setting_of plan.now
+        (opening_of W.effect (W.runs world.old) (W.state world.old) (C.state cache.old)))
+        → LeavesSafe C.state C.moment C.left C.says plan.now
+        (opening_of W.effect (W.runs world.old) (W.state world.old) (C.state cache.old))
+        (W.runs world.new).steps cache.old cache.new }
+    ensures bounded { W.tells → C.tells → (W.runs world.new).steps ≡ (W.runs world.old).steps
+        → (C.state cache.new).probes
+        ≤ (C.state cache.old).probes + look_up_cost (C.cost cache.old) plan.now }
+    ensures cause { StopsBy
+        (faults_of (W.state world.old).faults (C.state cache.old).faults (W.runs world.old).faults
+        (K.faults out.old))
+        (faults_of (W.state world.new).faults (C.state cache.new).faults (W.runs world.new).faults
+        (K.faults out.new)) result }
+{
+    story_law();
+    let mut board = Board::new(alloc, plan)?;
+    rounds(alloc, plan, &mut board, world, cache, out)?;
+    conclude(alloc, plan, &mut board, out)?;
+    Ok(board.reports.worst())
+}
+
+/// Runs the plan. Tasks are looked up in the cache and replayed, or their commands started and waited for, as many at once
+/// as the plan's width says; good results are put into the cache; the block of a task is printed as soon as no earlier task
+/// is unsettled, and the summary at the end. The answer is the greatest status, and 0 where no task failed.
+///
+/// Nothing may run in the world, the cache has to be whole, and where the world tells its files they have to hold the
+/// listing's bytes at its inputs. Of several faults the first is answered, after all running commands were waited for;
+/// the page then has whole blocks in the order of the plan, and where the output failed some first part of what follows.
+///
+/// The key of a task is made when it is looked up, and once more when its command has ended; it is not kept meanwhile,
+/// but its fingerprint is. Beyond that, a task costs about as much as its closure has bytes.
+pub fn run<W: Spawner, C: Cache, K: Sink>(
+    alloc: Global,
+    plan: &Plan,
+    world: &mut W,
+    cache: &mut C,
+    out: &mut K,
+) -> Result<u8, RunErr>
+    requires halts { HaltLaw }
+    requires plan { IsValidPlan plan.now }
+    requires idle { IsIdle (W.runs world.old) }
+    requires whole { IsTrue (C.state cache.old).whole }
+    requires inputs { W.tells → HoldsInputs plan.now (W.state world.old).files }
+
+    // Whatever it answers.
+    ensures idle { IsIdle (W.runs world.new) }
+    ensures book { (W.runs world.new).book ≡ (W.runs world.old).book }
+    ensures keeps { Keeps (C.state cache.old) (C.state cache.new) }
+    ensures grows { C.tells → Grows (C.state cache.old).pairs (C.state cache.new).pairs }
+    ensures images { C.tells
+        → LeavesFurther C.state C.moment C.left C.says cache.old cache.new }
+    ensures elsewhere { W.tells
+        → SameElsewhere plan.now (W.state world.old).files (W.state world.new).files }
+    ensures left { W.tells → C.tells → IsReady (setting_of plan.now
+        (opening_of W.effect (W.runs world.old) (W.state world.old) (C.state cache.old)))
+        → LeavesSafe C.state C.moment C.left C.says plan.now
+        (opening_of W.effect (W.runs world.old) (W.state world.old) (C.state cache.old))
+        (W.runs world.new).steps cache.old cache.new }
+    ensures bounded { W.tells → C.tells → (W.runs world.new).steps ≡ (W.runs world.old).steps
+        → (C.state cache.new).probes
+        ≤ (C.state cache.old).probes + look_up_cost (C.cost cache.old) plan.now }
+    ensures cause { EndsBy
+        (faults_of (W.state world.old).faults (C.state cache.old).faults (W.runs world.old).faults
+        (K.faults out.old))
+        (faults_of (W.state world.new).faults (C.state cache.new).faults (W.runs world.new).faults
+        (K.faults out.new)) result }
+
+    // A run that came to its end.
+    ensures whole { OnOk result (IsTrue (C.state cache.new).whole) }
+    ensures ran { W.tells → C.tells → IsReady (setting_of plan.now
+        (opening_of W.effect (W.runs world.old) (W.state world.old) (C.state cache.old)))
+        → IfOk result (Ran plan.now
+        (opening_of W.effect (W.runs world.old) (W.state world.old) (C.state cache.old))
+        (W.state world.new).files (C.state cache.new).pairs (C.state cache.new).room
+        (W.runs world.new).steps K.tells (K.written out.old) (K.written out.new)) }
+
+    // A run that did not.
+    ensures stopped { W.tells → C.tells → IsReady (setting_of plan.now
+        (opening_of W.effect (W.runs world.old) (W.state world.old) (C.state cache.old)))
+        → IfErr result (λ e. Stopped plan.now
+        (opening_of W.effect (W.runs world.old) (W.state world.old) (C.state cache.old))
+        (W.state world.new).files (C.state cache.new).pairs (C.state cache.new).room
+        (W.runs world.new).steps (cause_of e) K.tells (K.written out.old) (K.written out.new)) }
+    ensures waits { W.tells → C.tells → IsReady (setting_of plan.now
+        (opening_of W.effect (W.runs world.old) (W.state world.old) (C.state cache.old)))
+        → IfErr result (λ e. is_start_fault e ≡ false
+        → AllEnd (W.runs world.old).steps (W.runs world.new).steps
+        → (W.runs world.new).faults ≡ (W.runs world.old).faults) }
+{
+    match run_through(alloc, plan, world, cache, out) {
+        Ok(status) => Ok(status),
+        Err(fault) => {
+            drain(alloc, plan, world);
+            Err(fault)
+        }
+    }
+}
