@@ -1,5 +1,5 @@
 -- What putting a pair leaves.
-use Rattle.std.specs.Prelude.{◌≡◌, ◌⊎◌, ℕ, ◌<◌, Bool, true, List, [], ◌∷◌, ◌++◌}
+use Rattle.std.specs.Prelude.{◌≡◌, ◌⊎◌, ℕ, ◌<◌, Bool, true, List, [], ◌∷◌, ◌++◌, Option, Some}
 use Rattle.rel_path.specs.Files.{FileMap}
 use Rattle.globs.specs.declared.out_set.OutSet.{OutSet}
 use Rattle.cache_api.specs.Artifacts.{File}
@@ -34,3 +34,7 @@ abbrev pub MayBeKept : Bool → FileMap → OutSet → ℕ → List ℕ → List
     → Type 0
 MayBeKept put files outs limit key log before after =
     (after ≡ before) ⊎ IsKept put files outs limit key log before after
+
+-- what an image is said to stand for are the pairs, and perhaps some behind them
+abbrev pub IsFurther : List Pair → Option (List Pair) → Type 0
+IsFurther pairs said = (more : List Pair) × (said ≡ Some (pairs ++ more))

@@ -10,7 +10,7 @@ ghost use Rattle.capture.specs.Owned.{declares};
 ghost use Rattle.run_laws.specs.Ancestors.{part_at};
 ghost use Rattle.run_plan.specs.Results.{KeptAs};
 ghost use Rattle.run_plan.specs.StoryLaws.{KeptIf, to_put};
-ghost use Rattle.task_devices.specs.Keeping.{PutAs, MayBePut, MayBeKept};
+ghost use Rattle.task_devices.specs.Keeping.{PutAs, MayBePut, MayBeKept, IsFurther};
 ghost use Rattle.task_devices.specs.Stops.{faults_of, StopsBy};
 
 use crate::RunErr;
@@ -39,6 +39,8 @@ fn put<C: Cache>(
         IsWithOrWithout (C.state cache.old).pairs
         (pair_for (text_of key.entry) (held artifact.now))
         (C.says (C.state cache.old).base image)) }
+    ensures images { C.tells → Leaves C.moment C.left cache.old cache.new (λ image.
+        IsFurther (C.state cache.old).pairs (C.says (C.state cache.old).base image)) }
     ensures keeps { Keeps (C.state cache.old) (C.state cache.new) }
     ensures whole { OnOk result (IsTrue (C.state cache.new).whole) }
     ensures cause { StopsBy (faults_of 0 (C.state cache.old).faults 0 0)
@@ -82,6 +84,8 @@ fn store<W: Spawner, C: Cache>(
         × MayBeKept true
         (W.state world.old).files (part_at plan.now.listing place).outs plan.now.limit
         (text_of key.entry) log.now (C.state cache.old).pairs pairs) }
+    ensures images { C.tells → Leaves C.moment C.left cache.old cache.new (λ image.
+        IsFurther (C.state cache.old).pairs (C.says (C.state cache.old).base image)) }
     ensures keeps { Keeps (C.state cache.old) (C.state cache.new) }
     ensures whole { OnOk result (IsTrue (C.state cache.new).whole) }
     ensures cause { StopsBy
@@ -145,6 +149,8 @@ pub fn keep<W: Spawner, C: Cache>(
         × MayBeKept (to_put plan.now sound ended.now.place ended.now.status)
         (W.state world.old).files (part_at plan.now.listing ended.now.place).outs plan.now.limit
         (text_of key.entry) ended.now.log (C.state cache.old).pairs pairs) }
+    ensures images { C.tells → Leaves C.moment C.left cache.old cache.new (λ image.
+        IsFurther (C.state cache.old).pairs (C.says (C.state cache.old).base image)) }
     ensures keeps { Keeps (C.state cache.old) (C.state cache.new) }
     ensures whole { OnOk result (IsTrue (C.state cache.new).whole) }
     ensures cause { StopsBy
