@@ -1,5 +1,5 @@
 // A cache in a log: opening it and handing its device back.
-ghost use Rattle.std.specs.Prelude.{◌≡◌, ◌-◌, Some, length, IsTrue, IfOk, IfErr};
+ghost use Rattle.std.specs.Prelude.{◌≡◌, Some, length, IsTrue, IfOk, IfErr};
 ghost use Rattle.store_dev.specs.Device.{Only};
 ghost use Rattle.record_log.specs.Log.{is_whole, generation_in};
 ghost use Rattle.blob_pool.specs.Known.{Knows};
@@ -28,10 +28,8 @@ pub struct Store<S: StoreDevice> {
 }
 
 impl<S: StoreDevice> Store<S> {
-    ghost use Rattle.rel_path.specs.Limits.{store_limit};
-    ghost use Rattle.record_log.specs.Frames.{ends};
-    ghost use Rattle.artifact_store.specs.Pairs.{stands_for};
-    ghost use Rattle.artifact_store.specs.Store.{device_of, frames_of, state_of, count_in};
+    ghost use Rattle.artifact_store.specs.Pairs.{stands_for, free_in};
+    ghost use Rattle.artifact_store.specs.Store.{device_of, state_of, count_in};
     ghost use Rattle.artifact_store.specs.Opened.{IsOpened, IsUnopened};
 
     /// Opens a device as a store, whose pairs are those that the device holds, and foresees keys of any length. At most
@@ -66,7 +64,7 @@ impl<S: StoreDevice> Store<S> {
         ensures lasts { S.tells → IsTrue (state_of self).whole
             → Only (S.content result) (S.images result) }
         ensures free { S.tells → IsTrue (state_of self).whole
-            → (state_of self).room ≡ store_limit - ends (frames_of self) }
+            → (state_of self).room ≡ free_in (S.content result) }
     {
         self.log.device()
     }
