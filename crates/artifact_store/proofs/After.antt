@@ -25,11 +25,11 @@ use Rattle.pair_reader.specs.Answers.{HitIsWithin}
 use Rattle.pair_writer.specs.declared.frame.StagedFrame.{StagedFrame}
 use Rattle.pair_writer.specs.declared.frame.StagedFrame.TheVariants.{Content, Record}
 use Rattle.pair_writer.specs.Held.{staged_entry, staged_entries}
-use Rattle.artifact_store.specs.declared.index.Index.{Index}
+use Rattle.pair_index.specs.declared.index.Index.{Index}
 use Rattle.artifact_store.specs.declared.store.Store.{Store}
-use Rattle.artifact_store.specs.Costs as costs
-use Rattle.artifact_store.specs.Index.{lengths_in, IsIndexOf, Indexes, IndexesTheSame}
-use Rattle.artifact_store.specs.Keys.{IsKeysOf, numbers_from, is_hashed, print_of, passing}
+use Rattle.pair_index.specs.Costs as costs
+use Rattle.pair_index.specs.Index.{lengths_in, IsIndexOf, Indexes, IndexesTheSame}
+use Rattle.pair_index.specs.Keys.{IsKeysOf, numbers_from, is_hashed, print_of, passing}
 use Rattle.artifact_store.specs.Laws.{told_is, images_told}
 use Rattle.artifact_store.specs.Pairs.{told_as}
 use Rattle.artifact_store.specs.Store.{device_of, frames_of, state_of, moment_of, left_of, cost_of, stands, shows, OnlyReadsStore}

@@ -8,9 +8,9 @@ use Rattle.record_log.specs.Frames.{all_formed}
 use Rattle.pair_frames.specs.Pairs.{holds_pair, pairs_in}
 use Rattle.pair_frames.specs.Reading.{HoldsPair, record_places, length-record_places, pair_place, pair_read}
 use Rattle.pair_reader.specs.Frames.{frame_of, pair_at}
-use Rattle.artifact_store.specs.declared.index.Index.{Index}
-use Rattle.artifact_store.specs.Costs.{cost_at}
-use Rattle.artifact_store.specs.Index.{frames_in, IsIndexOf, FramesBelow}
+use Rattle.pair_index.specs.declared.index.Index.{Index}
+use Rattle.pair_index.specs.Costs.{cost_at}
+use Rattle.pair_index.specs.Index.{frames_in, IsIndexOf, FramesBelow}
 
 pub frame_below : (index : Index) (n number frame : ℕ) → FramesBelow index n
     → slice_get (frames_in index) number ≡ Some frame → frame < n

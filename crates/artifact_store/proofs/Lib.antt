@@ -1,6 +1,3 @@
-pub mod KeyLaws
-pub mod Places
-pub mod IndexLaws
 pub mod Carry
 pub mod Search
 pub mod Given
@@ -9,3 +6,4 @@ pub mod Shown
 pub mod Fits
 pub mod After
 pub mod Both
+pub mod Opening

@@ -1,5 +1,5 @@
 -- A search from the last pair to the first.
-use Rattle.std.proofs.Common.{◌≡◌, ℕ, zero, suc, ◌+◌, ◌-◌, ◌<◌, ◌≤◌, Bool, true, false, cond, List, [], ◌∷◌, length, get_or, drop, Option, Some, None, refl, sym, ◌∙◌, ap, subst, arith}
+use Rattle.std.proofs.Common.{◌≡◌, ℕ, zero, suc, ◌+◌, ◌-◌, ◌<◌, ◌≤◌, Bool, true, false, cond, List, [], ◌∷◌, length, map, get_or, drop, Option, Some, None, refl, sym, ◌∙◌, ap, subst, arith}
 use Rattle.std.specs.Prelude.{bytes_eq, nat_eq}
 use Rattle.std.proofs.lemmas.List.{drop_more, drop_all, get_or-map, length-map}
 use Rattle.std.proofs.lemmas.Slice.Eq.{bytes_eq-Decides}
@@ -15,9 +15,10 @@ use Rattle.cache_api.specs.Found.{given, if_owned, or_else, found}
 use Rattle.cache_api.specs.Pairs.{Pair}
 use Rattle.pair_reader.specs.declared.wanted.Lengths.{Lengths}
 use Rattle.pair_reader.specs.Answers.{is_one_of}
-use Rattle.artifact_store.specs.declared.keys.Keys.{Keys}
-use Rattle.artifact_store.specs.Keys.{len_of, print_of, is_hashed, numbers_from, picked, passing, numbers_in, IsKeysOf, is_sought_by_print, place_count, number_at, may_have}
-use Rattle.artifact_store.specs.Costs.{reads_pair, sum_where}
+use Rattle.pair_index.specs.declared.keys.Keys.{Keys}
+use Rattle.pair_index.specs.Keys.{len_of, print_of, is_hashed, numbers_from, picked, passing, numbers_in, IsKeysOf, is_sought_by_print, place_count, number_at, may_have}
+use Rattle.pair_index.specs.Seen.{numbered}
+use Rattle.pair_index.specs.Costs.{reads_pair, sum_where}
 
 -- ---- pairs that a search passes by give nothing
 
@@ -41,7 +42,7 @@ other_gives : (read : Reader) (key : List ℕ) (outs : OutSet) (pair : Pair) →
 other_gives read key outs pair other =
     given_by read key outs pair (name_eq pair.0 key) (no_key pair key other (name_eq pair.0 key) refl)
 
-unread_gives : (read : Reader) (by : Bool) (key : List ℕ) (outs : OutSet) (pair : Pair)
+pub unread_gives : (read : Reader) (by : Bool) (key : List ℕ) (outs : OutSet) (pair : Pair)
     → reads_pair by key pair ≡ false → given read key outs pair ≡ None
 unread_gives read by key outs pair unread =
     other_gives read key outs pair (λ is. let read_it = same_read by key pair is in absurd (cc))
@@ -52,37 +53,95 @@ abbrev pub sought : {A : Type 0} → Bool → Lengths → List A → List Pair �
 sought true lengths xs pairs = picked (is_hashed lengths) xs pairs
 sought false lengths xs pairs = xs
 
-found_by : (b : Bool) (read : Reader) (key : List ℕ) (outs : OutSet) (pair : Pair) (some all : List Pair)
-    → found read key outs some ≡ found read key outs all
-    → (b ≡ false → given read key outs pair ≡ None)
-    → found read key outs (cond b (pair ∷ some) some) ≡ found read key outs (pair ∷ all)
-found_by true read key outs pair some all is none =
+-- ---- what pairs give, and nothing where one is not seen
+
+-- a list with that element in the place of those whose numbers fail a test, where the first has that number
+abbrev pub masked : {A : Type 0} → (ℕ → Bool) → A → ℕ → List A → List A
+masked test d n [] = []
+masked test d n (x ∷ xs) = cond (test n) x d ∷ masked test d (n + 1) xs
+
+pub length-masked : {A : Type 0} (test : ℕ → Bool) (d : A) (n : ℕ) (xs : List A)
+    → length (masked test d n xs) ≡ length xs
+length-masked test d n [] = refl
+length-masked test d n (x ∷ xs) = omega (arith, length-masked test d (n + 1) xs)
+
+masked_at : {A : Type 0} (test : ℕ → Bool) (d : A) (n : ℕ) (xs : List A) (k : ℕ) → k < length xs
+    → get_or (masked test d n xs) k d ≡ cond (test (n + k)) (get_or xs k d) d
+masked_at test d n [] k lt = absurd (omega arith)
+masked_at test d n (x ∷ xs) zero lt = ap (λ (m : ℕ). cond (test m) x d) (omega arith)
+masked_at test d n (x ∷ xs) (suc k) lt =
+    let next : n + 1 + k ≡ n + suc k = omega arith in
+    masked_at test d (n + 1) xs k (omega (arith, lt))
+    ∙ ap (λ (m : ℕ). cond (test m) (get_or xs k d) d) next
+
+pub masked_here : {A : Type 0} (test : ℕ → Bool) (d : A) (xs : List A) (k : ℕ) → k < length xs
+    → get_or (masked test d 0 xs) k d ≡ cond (test k) (get_or xs k d) d
+masked_here test d xs k lt =
+    let from_zero : 0 + k ≡ k = omega arith in
+    masked_at test d 0 xs k lt ∙ ap (λ (m : ℕ). cond (test m) (get_or xs k d) d) from_zero
+
+-- the last that is something
+abbrev pub last_given : List (Option Artifact) → Option Artifact
+last_given [] = None
+last_given (g ∷ gs) = or_else (last_given gs) g
+
+or_none : (a : Option Artifact) → or_else a None ≡ a
+or_none None = refl
+or_none (Some x) = refl
+
+pub none_by : (b : Bool) (g : Option Artifact) → g ≡ None → cond b g None ≡ None
+none_by true g is = is
+none_by false g is = refl
+
+found_by : (b : Bool) (read : Reader) (key : List ℕ) (outs : OutSet) (pair : Pair) (some : List Pair)
+    (gives : List (Option Artifact)) → found read key outs some ≡ last_given gives
+    → found read key outs (cond b (pair ∷ some) some)
+    ≡ last_given (cond b (given read key outs pair) None ∷ gives)
+found_by true read key outs pair some gives is =
     ap (λ (o : Option Artifact). or_else o (given read key outs pair)) is
-found_by false read key outs pair some all is none =
-    is ∙ sym (or_none (found read key outs all)) ∙ ap (or_else (found read key outs all)) (sym (none refl))
-  where
-    or_none : (a : Option Artifact) → or_else a None ≡ a
-    or_none None = refl
-    or_none (Some x) = refl
+found_by false read key outs pair some gives is = is ∙ sym (or_none (last_given gives))
 
-found_picked : (test : Pair → Bool) (read : Reader) (key : List ℕ) (outs : OutSet)
-    → ((pair : Pair) → test pair ≡ false → given read key outs pair ≡ None)
-    → (pairs : List Pair) → found read key outs (passing test pairs) ≡ found read key outs pairs
-found_picked test read key outs none [] = refl
-found_picked test read key outs none (pair ∷ pairs) =
-    found_by (test pair) read key outs pair (passing test pairs) pairs
-    (found_picked test read key outs none pairs) (none pair)
+-- what is found among those that are seen
+pub found_seen : (test : ℕ → Bool) (read : Reader) (key : List ℕ) (outs : OutSet) (n : ℕ) (pairs : List Pair)
+    → found read key outs (numbered test n pairs)
+    ≡ last_given (masked test None n (map (given read key outs) pairs))
+found_seen test read key outs n [] = refl
+found_seen test read key outs n (pair ∷ pairs) =
+    found_by (test n) read key outs pair (numbered test (n + 1) pairs)
+    (masked test None (n + 1) (map (given read key outs) pairs))
+    (found_seen test read key outs (n + 1) pairs)
 
-pub found_sought : (by : Bool) (lengths : Lengths) (read : Reader) (key : List ℕ) (outs : OutSet)
+last_by : (b : Bool) (g : Option Artifact) (some all : List (Option Artifact))
+    → last_given some ≡ last_given all → (b ≡ false → g ≡ None)
+    → last_given (cond b (g ∷ some) some) ≡ last_given (g ∷ all)
+last_by true g some all is none = ap (λ (o : Option Artifact). or_else o g) is
+last_by false g some all is none =
+    is ∙ sym (or_none (last_given all)) ∙ ap (or_else (last_given all)) (sym (none refl))
+
+last_picked : (picks : Pair → Bool) (test : ℕ → Bool) (gives : Pair → Option Artifact)
+    → ((pair : Pair) → picks pair ≡ false → gives pair ≡ None) → (n : ℕ) (pairs : List Pair)
+    → last_given (picked picks (masked test None n (map gives pairs)) pairs)
+    ≡ last_given (masked test None n (map gives pairs))
+last_picked picks test gives none n [] = refl
+last_picked picks test gives none n (pair ∷ pairs) =
+    last_by (picks pair) (cond (test n) (gives pair) None)
+    (picked picks (masked test None (n + 1) (map gives pairs)) pairs)
+    (masked test None (n + 1) (map gives pairs))
+    (last_picked picks test gives none (n + 1) pairs)
+    (λ other. none_by (test n) (gives pair) (none pair other))
+
+-- it is among the pairs where a key is sought
+pub last_sought : (by : Bool) (lengths : Lengths) (test : ℕ → Bool) (read : Reader) (key : List ℕ) (outs : OutSet)
     → by ≡ is_sought_by_print lengths key → (pairs : List Pair)
-    → found read key outs (sought by lengths pairs pairs) ≡ found read key outs pairs
-found_sought false lengths read key outs is pairs = refl
-found_sought true lengths read key outs is pairs =
-    found_picked (is_hashed lengths) read key outs
+    → last_given (sought by lengths (masked test None 0 (map (given read key outs) pairs)) pairs)
+    ≡ last_given (masked test None 0 (map (given read key outs) pairs))
+last_sought false lengths test read key outs is pairs = refl
+last_sought true lengths test read key outs is pairs =
+    last_picked (is_hashed lengths) test (given read key outs)
     (λ pair other. other_gives read key outs pair (λ same.
     let here : is_hashed lengths pair ≡ true =
     ap (λ (l : List ℕ). is_one_of lengths (capped (length l))) same ∙ sym is in absurd (cc)))
-    pairs
+    0 pairs
 
 pub sum_none : (test : Pair → Bool) (ns : List ℕ) → sum_where test ns [] ≡ 0
 sum_none test [] = refl
@@ -108,34 +167,55 @@ pub sum_sought : (by : Bool) (lengths : Lengths) (test : Pair → Bool) (ns : Li
 sum_sought true lengths test ns pairs = sum_picked (is_hashed lengths) test ns pairs
 sum_sought false lengths test ns pairs = omega arith
 
+zero_by : (b : Bool) (n : ℕ) → n ≡ cond b 0 0 + n
+zero_by true n = omega arith
+zero_by false n = omega arith
+
+seen_by : (b : Bool) (test : Pair → Bool) (n : ℕ) (pair : Pair) (ns all : List ℕ) (ps pairs : List Pair)
+    → sum_where test ns ps ≡ sum_where test all pairs
+    → sum_where test (cond b (n ∷ ns) ns) (cond b (pair ∷ ps) ps)
+    ≡ sum_where test (cond b n 0 ∷ all) (pair ∷ pairs)
+seen_by true test n pair ns all ps pairs is = omega (arith, is)
+seen_by false test n pair ns all ps pairs is = is ∙ zero_by (test pair) (sum_where test all pairs)
+
+-- the sum over those that are seen, where those that are not add nothing
+pub sum_numbered : (sees : ℕ → Bool) (test : Pair → Bool) (n : ℕ) (ns : List ℕ) (pairs : List Pair)
+    → sum_where test (numbered sees n ns) (numbered sees n pairs)
+    ≡ sum_where test (masked sees 0 n ns) pairs
+sum_numbered sees test n [] pairs = refl
+sum_numbered sees test n (m ∷ ns) [] = sum_none test (numbered sees n (m ∷ ns))
+sum_numbered sees test n (m ∷ ns) (pair ∷ pairs) =
+    seen_by (sees n) test m pair (numbered sees (n + 1) ns) (masked sees 0 (n + 1) ns)
+    (numbered sees (n + 1) pairs) pairs (sum_numbered sees test (n + 1) ns pairs)
+
 -- ---- the number of the pair at a place
 
-record Numbered {A : Type 0} (numbers : List ℕ) (picks xs : List A) (n j k count : ℕ) (d : A) : Type 0 where
+record IsPlace {A : Type 0} (numbers : List ℕ) (picks xs : List A) (n j k count : ℕ) (d : A) : Type 0 where
   number : get_or numbers j 0 ≡ n + k
   inside : k < count
   same : get_or picks j d ≡ get_or xs k d
 
-numbered_by : {A : Type 0} (b : Bool) (numbers : List ℕ) (picks xs : List A) (x : A) (n j count : ℕ) (d : A)
-    → ((i : ℕ) → i < length numbers → (k : ℕ) × Numbered numbers picks xs (n + 1) i k count d)
+place_by : {A : Type 0} (b : Bool) (numbers : List ℕ) (picks xs : List A) (x : A) (n j count : ℕ) (d : A)
+    → ((i : ℕ) → i < length numbers → (k : ℕ) × IsPlace numbers picks xs (n + 1) i k count d)
     → j < length (cond b (n ∷ numbers) numbers)
-    → (k : ℕ) × Numbered (cond b (n ∷ numbers) numbers) (cond b (x ∷ picks) picks) (x ∷ xs) n j k (suc count) d
-numbered_by true numbers picks xs x n zero count d more lt =
+    → (k : ℕ) × IsPlace (cond b (n ∷ numbers) numbers) (cond b (x ∷ picks) picks) (x ∷ xs) n j k (suc count) d
+place_by true numbers picks xs x n zero count d more lt =
     (0, record { number = omega arith; inside = omega arith; same = refl })
-numbered_by true numbers picks xs x n (suc j) count d more lt =
+place_by true numbers picks xs x n (suc j) count d more lt =
     let (k, y) = more j (omega (arith, lt)) in
     (suc k, record { number = omega (arith, y.number); inside = omega (arith, y.inside); same = y.same })
-numbered_by false numbers picks xs x n j count d more lt =
+place_by false numbers picks xs x n j count d more lt =
     let (k, y) = more j lt in
     (suc k, record { number = omega (arith, y.number); inside = omega (arith, y.inside); same = y.same })
 
-numbered : {A : Type 0} (test : Pair → Bool) (n : ℕ) (xs : List A) (pairs : List Pair) (d : A)
+place_of : {A : Type 0} (test : Pair → Bool) (n : ℕ) (xs : List A) (pairs : List Pair) (d : A)
     → length xs ≡ length pairs → (j : ℕ) → j < length (numbers_from test n pairs)
-    → (k : ℕ) × Numbered (numbers_from test n pairs) (picked test xs pairs) xs n j k (length pairs) d
-numbered test n xs [] d even j lt = absurd (omega arith)
-numbered test n [] (pair ∷ pairs) d even j lt = absurd (omega (arith, even))
-numbered test n (x ∷ xs) (pair ∷ pairs) d even j lt =
-    numbered_by (test pair) (numbers_from test (n + 1) pairs) (picked test xs pairs) xs x n j (length pairs) d
-    (numbered test (n + 1) xs pairs d (omega (arith, even))) lt
+    → (k : ℕ) × IsPlace (numbers_from test n pairs) (picked test xs pairs) xs n j k (length pairs) d
+place_of test n xs [] d even j lt = absurd (omega arith)
+place_of test n [] (pair ∷ pairs) d even j lt = absurd (omega (arith, even))
+place_of test n (x ∷ xs) (pair ∷ pairs) d even j lt =
+    place_by (test pair) (numbers_from test (n + 1) pairs) (picked test xs pairs) xs x n j (length pairs) d
+    (place_of test (n + 1) xs pairs d (omega (arith, even))) lt
 
 -- the pair at a place, and what stands beside it
 pub record IsNumberOf {A : Type 0} (by : Bool) (keys : Keys) (pairs : List Pair) (xs : List A) (at : ℕ) (d : A) : Type 0 where
@@ -147,7 +227,7 @@ pub number_of : {A : Type 0} (by : Bool) (keys : Keys) (pairs : List Pair) (xs :
     → IsNumberOf by keys pairs xs at d
 number_of true keys pairs xs at d x even lt =
     let many : at < length (numbers_from (is_hashed keys.lengths) 0 pairs) = omega (arith, lt, keys.even, ap length x.numbers) in
-    let (k, y) = numbered (is_hashed keys.lengths) 0 xs pairs d even at many in
+    let (k, y) = place_of (is_hashed keys.lengths) 0 xs pairs d even at many in
     let is : k ≡ get_or (numbers_in keys) at 0 = omega (arith, y.number, ap (λ (l : List ℕ). get_or l at 0) x.numbers) in
     record {
       inside = omega (arith, y.inside, is);
@@ -175,16 +255,21 @@ may_read false keys key pairs i d x lt =
 
 -- ---- what is known once all places behind one were looked at
 
-pub record IsSought (read : Reader) (by : Bool) (key : List ℕ) (outs : OutSet) (pairs : List Pair)
+pub record IsSought (by : Bool) (key : List ℕ) (pairs : List Pair) (gives : List (Option Artifact))
     (costs : List ℕ) (start now limit : ℕ) : Type 0 where
-  pub none : found read key outs (drop limit pairs) ≡ None
+  pub none : last_given (drop limit gives) ≡ None
   pub few : now ≤ start + sum_where (reads_pair by key) (drop limit costs) (drop limit pairs)
 
-module _ (read : Reader) (by : Bool) (key : List ℕ) (outs : OutSet) (pairs : List Pair) (costs : List ℕ)
-    (even : length costs ≡ length pairs) (start : ℕ) where
-  pub sought_none : (limit : ℕ) → length pairs ≤ limit → IsSought read by key outs pairs costs start start limit
+-- a place is passed by: it is not read, and gives nothing
+pub record IsPassed (by : Bool) (key : List ℕ) (pairs : List Pair) (gives : List (Option Artifact)) (d : Pair) (i : ℕ) : Type 0 where
+  pub unread : reads_pair by key (get_or pairs i d) ≡ false
+  pub nothing : get_or gives i None ≡ None
+
+module _ (by : Bool) (key : List ℕ) (pairs : List Pair) (gives : List (Option Artifact)) (costs : List ℕ)
+    (even : length costs ≡ length pairs) (all : length gives ≡ length pairs) (start : ℕ) where
+  pub sought_none : (limit : ℕ) → length pairs ≤ limit → IsSought by key pairs gives costs start start limit
   sought_none limit le = record {
-    none = ap (found read key outs) (drop_all limit pairs le);
+    none = ap last_given (drop_all limit gives (omega (arith, le, all)));
     few = omega arith;
   }
 
@@ -195,46 +280,47 @@ module _ (read : Reader) (by : Bool) (key : List ℕ) (outs : OutSet) (pairs : L
   at_one i d lt =
       (λ j. sum_where (reads_pair by key) (drop_more costs i 0 (omega (arith, lt, even)) j) (drop_more pairs i d lt j))
 
-  found_one : (i : ℕ) (d : Pair) → i < length pairs → found read key outs (drop (i + 1) pairs) ≡ None
-      → found read key outs (drop i pairs) ≡ given read key outs (get_or pairs i d)
-  found_one i d lt none =
-      ap (found read key outs) (drop_more pairs i d lt)
-      ∙ ap (λ (o : Option Artifact). or_else o (given read key outs (get_or pairs i d))) none
+  given_one : (i : ℕ) → i < length pairs → last_given (drop (i + 1) gives) ≡ None
+      → last_given (drop i gives) ≡ get_or gives i None
+  given_one i lt none =
+      ap last_given (drop_more gives i None (omega (arith, lt, all)))
+      ∙ ap (λ (o : Option Artifact). or_else o (get_or gives i None)) none
 
   -- a place that is passed by
-  pass : (now i : ℕ) (d : Pair) → i < length pairs → reads_pair by key (get_or pairs i d) ≡ false
-      → IsSought read by key outs pairs costs start now (i + 1) → IsSought read by key outs pairs costs start now i
-  pass now i d lt unread x = record {
-    none = found_one i d lt x.none ∙ unread_gives read by key outs (get_or pairs i d) unread;
-    few = omega (arith, x.few, at_one i d lt);
+  pass : (now i : ℕ) (d : Pair) → i < length pairs → IsPassed by key pairs gives d i
+      → IsSought by key pairs gives costs start now (i + 1) → IsSought by key pairs gives costs start now i
+  pass now i d lt past x = record {
+    none = given_one i lt x.none ∙ past.nothing;
+    few =
+        let unread = past.unread in omega (arith, x.few, at_one i d lt);
   }
 
   -- many of them
   pass_all : (now lo k : ℕ) (d : Pair) → lo + k ≤ length pairs
-      → ((i : ℕ) → lo ≤ i → i < lo + k → reads_pair by key (get_or pairs i d) ≡ false)
-      → IsSought read by key outs pairs costs start now (lo + k) → IsSought read by key outs pairs costs start now lo
-  pass_all now lo zero d le unread x =
-      subst (IsSought read by key outs pairs costs start now) (omega arith) x
-  pass_all now lo (suc k) d le unread x =
-      pass_all now lo k d (omega (arith, le)) (λ i from to. unread i from (omega (arith, to)))
-      (pass now (lo + k) d (omega (arith, le)) (unread (lo + k) (omega arith) (omega arith))
-      (subst (IsSought read by key outs pairs costs start now) (omega arith) x))
+      → ((i : ℕ) → lo ≤ i → i < lo + k → IsPassed by key pairs gives d i)
+      → IsSought by key pairs gives costs start now (lo + k) → IsSought by key pairs gives costs start now lo
+  pass_all now lo zero d le past x =
+      subst (IsSought by key pairs gives costs start now) (omega arith) x
+  pass_all now lo (suc k) d le past x =
+      pass_all now lo k d (omega (arith, le)) (λ i from to. past i from (omega (arith, to)))
+      (pass now (lo + k) d (omega (arith, le)) (past (lo + k) (omega arith) (omega arith))
+      (subst (IsSought by key pairs gives costs start now) (omega arith) x))
 
   pub passed : (now lo hi : ℕ) (d : Pair) → lo ≤ hi → hi ≤ length pairs
-      → ((i : ℕ) → lo ≤ i → i < hi → reads_pair by key (get_or pairs i d) ≡ false)
-      → IsSought read by key outs pairs costs start now hi → IsSought read by key outs pairs costs start now lo
-  passed now lo hi d le few unread x =
+      → ((i : ℕ) → lo ≤ i → i < hi → IsPassed by key pairs gives d i)
+      → IsSought by key pairs gives costs start now hi → IsSought by key pairs gives costs start now lo
+  passed now lo hi d le few past x =
       let k : ℕ = hi - lo in
       let is : hi ≡ lo + k = omega (arith, le) in
-      pass_all now lo k d (omega (arith, few, le)) (λ i from to. unread i from (omega (arith, to, le)))
-      (subst (IsSought read by key outs pairs costs start now) is x)
+      pass_all now lo k d (omega (arith, few, le)) (λ i from to. past i from (omega (arith, to, le)))
+      (subst (IsSought by key pairs gives costs start now) is x)
 
-  -- one that was read, and gave nothing
+  -- one that was looked at, and gave nothing
   pub looked : (now next i : ℕ) (d : Pair) → i < length pairs → reads_pair by key (get_or pairs i d) ≡ true
-      → given read key outs (get_or pairs i d) ≡ None → next ≤ now + get_or costs i 0
-      → IsSought read by key outs pairs costs start now (i + 1) → IsSought read by key outs pairs costs start next i
-  looked now next i d lt reads none le x = record {
-    none = found_one i d lt x.none ∙ none;
+      → get_or gives i None ≡ None → next ≤ now + get_or costs i 0
+      → IsSought by key pairs gives costs start now (i + 1) → IsSought by key pairs gives costs start next i
+  looked now next i d lt reads nothing le x = record {
+    none = given_one i lt x.none ∙ nothing;
     few =
         let sum = at_one i d lt ∙ ap (λ (b : Bool). cond b (get_or costs i 0) 0
         + sum_where (reads_pair by key) (drop (i + 1) costs) (drop (i + 1) pairs)) reads in
@@ -243,7 +329,7 @@ module _ (read : Reader) (by : Bool) (key : List ℕ) (outs : OutSet) (pairs : L
 
   -- so many reads at most behind a place, together with those for the pair there
   pub most : (now i : ℕ) (d : Pair) → i < length pairs → reads_pair by key (get_or pairs i d) ≡ true
-      → IsSought read by key outs pairs costs start now (i + 1)
+      → IsSought by key pairs gives costs start now (i + 1)
       → now + get_or costs i 0 ≤ start + sum_where (reads_pair by key) costs pairs
   most now i d lt reads x =
       let sum = at_one i d lt ∙ ap (λ (b : Bool). cond b (get_or costs i 0) 0
@@ -258,13 +344,11 @@ module _ (read : Reader) (by : Bool) (key : List ℕ) (outs : OutSet) (pairs : L
       drop_sum (suc n) (m ∷ ns) (p ∷ ps) = omega (arith, drop_sum n ns ps)
 
   -- one that gave something
-  pub found_here : (i : ℕ) (d : Pair) (a : Artifact) → i < length pairs
-      → found read key outs (drop (i + 1) pairs) ≡ None
-      → given read key outs (get_or pairs i d) ≡ Some a → found read key outs pairs ≡ Some a
-  found_here i d a lt none gives = front i pairs (found_one i d lt none ∙ gives)
+  pub found_here : (i : ℕ) (a : Artifact) → i < length pairs → last_given (drop (i + 1) gives) ≡ None
+      → get_or gives i None ≡ Some a → last_given gives ≡ Some a
+  found_here i a lt none is = front i gives (given_one i lt none ∙ is)
     where
-      front : (n : ℕ) (ps : List Pair) → found read key outs (drop n ps) ≡ Some a → found read key outs ps ≡ Some a
-      front zero ps is = is
+      front : (n : ℕ) (gs : List (Option Artifact)) → last_given (drop n gs) ≡ Some a → last_given gs ≡ Some a
+      front zero gs is = is
       front (suc n) [] is = is
-      front (suc n) (p ∷ ps) is =
-          ap (λ (o : Option Artifact). or_else o (given read key outs p)) (front n ps is)
+      front (suc n) (g ∷ gs) is = ap (λ (o : Option Artifact). or_else o g) (front n gs is)

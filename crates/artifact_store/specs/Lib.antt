@@ -1,10 +1,8 @@
 pub mod Pairs
 pub mod Answers
-pub mod Lengths
-pub mod Keys
-pub mod Costs
-pub mod Index
 pub mod Outcomes
 pub mod Hits
 pub mod Store
+pub mod Marks
+pub mod Opened
 pub mod Laws

@@ -1,8 +1,9 @@
 -- What the bytes of a store stand for.
-use Rattle.std.specs.Prelude.{◌≡◌, ℕ, List, if◌then◌else◌, ◌==◌, Option, Some, None, Ok, Err}
+use Rattle.std.specs.Prelude.{◌≡◌, ◌-◌, ℕ, List, if◌then◌else◌, ◌==◌, Option, Some, None, Ok, Err}
 use Rattle.cache_api.specs.Pairs.{Pair}
 use Rattle.record_log.specs.Kinds.{generation_of}
-use Rattle.record_log.specs.Frames.{reading, frames_of}
+use Rattle.rel_path.specs.Limits.{store_limit}
+use Rattle.record_log.specs.Frames.{reading, frames_of, ends}
 use Rattle.pair_frames.specs.Pairs as frames
 pub use Rattle.pair_frames.specs.Pairs.{pairs_in}
 
@@ -23,3 +24,7 @@ LeftOf since device m left = (c : List ℕ) × since device m c × (left ≡ sta
 -- what one of these images stands for
 abbrev pub IsOneOf : (List ℕ → Type 0) → Option (List Pair) → Type 0
 IsOneOf images left = (d : List ℕ) × images d × (left ≡ stands_for d)
+
+-- how many bytes more a store of these bytes may take
+abbrev pub free_in : List ℕ → ℕ
+free_in bytes = store_limit - ends (frames_of bytes)

@@ -15,9 +15,10 @@ use Rattle.pair_frames.specs.Pairs.{pairs_in}
 use Rattle.artifact_reader.specs.Parts.{shown_in}
 use Rattle.pair_reader.specs.declared.wanted.Lengths.{Lengths}
 use Rattle.pair_reader.specs.Answers.{HitIsWithin}
+use Rattle.pair_index.specs.declared.seen.SeenPairs.{SeenPairs}
 use Rattle.artifact_store.specs.declared.store.Store.{Store}
-use Rattle.artifact_store.specs.Costs as costs
-use Rattle.artifact_store.specs.Index.{frames_in, lengths_in}
+use Rattle.pair_index.specs.Costs as costs
+use Rattle.pair_index.specs.Index.{frames_in, lengths_in}
 use Rattle.artifact_store.specs.Outcomes.{outcomes}
 
 abbrev pub device_of : {S : Type 0} {G : Ghosts S} → Store S G → S
@@ -73,6 +74,15 @@ cost_of store key = costs.cost_of (lengths_in store.index) (log.frames_in store.
 -- to look it up alone
 abbrev pub reads_of : {S : Type 0} {G : Ghosts S} → Store S G → List ℕ → ℕ
 reads_of store key = costs.reads_of (lengths_in store.index) (log.frames_in store.log) key
+
+-- the same for a look-up that sees some of the pairs alone
+abbrev pub cost_seen : {S : Type 0} {G : Ghosts S} → Store S G → SeenPairs → List ℕ → ℕ
+cost_seen store seen key =
+    costs.cost_seen seen (lengths_in store.index) (log.frames_in store.log) key
+
+abbrev pub reads_seen : {S : Type 0} {G : Ghosts S} → Store S G → SeenPairs → List ℕ → ℕ
+reads_seen store seen key =
+    costs.reads_seen seen (lengths_in store.index) (log.frames_in store.log) key
 
 -- for which of these pairs there is room, one after another
 abbrev pub stores : {S : Type 0} {G : Ghosts S} → Store S G → List Pair → List Put

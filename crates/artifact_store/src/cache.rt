@@ -20,6 +20,7 @@ use crate::Store;
 use crate::hits::read_spans;
 use cache_api::{Cache, CacheErr, Hit, Key, NewPair, Puts};
 use globs::OutSet;
+use pair_index::{Numbers, SeenPairs};
 use rel_path::{Bytes, Span};
 use std::alloc::Global;
 use store_dev::StoreDevice;
@@ -107,7 +108,11 @@ impl<S: StoreDevice> Cache for Store<S> {
         ensures cause { Counts is_fault (state_of self.old).faults
             (state_of self.new).faults result }
     {
-        self.search(alloc, &key, outs)
+        let all = SeenPairs {
+            first: self.count(),
+            own: Numbers::new(alloc),
+        };
+        self.lookup_seen(alloc, key, outs, &all)
     }
 
     fn hit_log(&mut self, alloc: Global, hit: &Hit) -> Result<Bytes, CacheErr> {

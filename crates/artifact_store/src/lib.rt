@@ -10,13 +10,14 @@
 mod cache;
 mod error;
 mod hits;
-mod index;
-mod keys;
 mod look;
+mod mark;
 mod pairs;
 mod put;
 mod store;
 
 pub use error::OpenErr;
+pub use mark::StoreMark;
+pub use pair_index::{Numbers, SeenPairs};
 pub use pair_reader::Lengths;
 pub use store::Store;

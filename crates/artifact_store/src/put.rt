@@ -12,12 +12,12 @@ ghost use Rattle.pair_frames.specs.Pairs.{pairs_in};
 ghost use Rattle.pair_frames.specs.Puts.{added};
 ghost use Rattle.pair_frames.specs.Laws.{AllPut};
 ghost use Rattle.pair_writer.specs.Staged.{entries, taken};
-ghost use Rattle.artifact_store.specs.Index.{Indexes, lengths_in};
+ghost use Rattle.pair_index.specs.Index.{Indexes, lengths_in};
 
 use crate::Store;
-use crate::index::Index;
 use blob_pool::Pool;
 use cache_api::{CacheErr, NewPair, Put, Puts};
+use pair_index::Index;
 use pair_writer::{Staged, learn_all, stage_all};
 use record_log::{Log, LogErr, NewFrame};
 use std::alloc::Global;

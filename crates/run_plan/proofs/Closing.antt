@@ -1,15 +1,10 @@
--- What a story gives: at the end of a run, and at each moment.
-use Rattle.std.proofs.Common.{◌≡◌, ◌≢◌, ℕ, zero, suc, ◌+◌, ◌<◌, ◌≤◌, ◌==◌, ◌&&◌, not, Bool, true, false, cond, List, [], ◌∷◌, ◌++◌, length, refl, sym, ap, ◌∙◌, subst, arith, inl, inr, Option, Some, None, append_assoc, append-nil, max, add-one}
-use Rattle.std.specs.Prelude.{filter, map, slice_index_or}
+-- What a story gives at the end of a run.
+use Rattle.std.proofs.Common.{◌≡◌, ◌≢◌, ℕ, zero, suc, ◌+◌, ◌<◌, ◌≤◌, ◌==◌, ◌&&◌, not, Bool, true, false, cond, List, [], ◌∷◌, ◌++◌, length, refl, sym, ap, ◌∙◌, subst, arith, inl, inr, Option, Some, None, append-nil, max, add-one}
+use Rattle.std.specs.Prelude.{map, slice_index_or}
 use Rattle.std.proofs.lemmas.Bool.{cases_lt, false≢true, true≢false}
-use Rattle.std.proofs.lemmas.List.Elements.{filter-append}
 use Rattle.listing.specs.declared.part.Part.{Part}
 use Rattle.page.specs.declared.blocks.Note.{Note}
 use Rattle.page.specs.Summaries.{summary_text}
-use Rattle.spawn_dev.specs.declared.command.Step.{Step as Told}
-use Rattle.spawn_dev.specs.declared.command.Step.TheVariants as told
-use Rattle.run_core.specs.declared.states.Step.{Step}
-use Rattle.run_core.specs.declared.states.Step.TheVariants.{Start, End}
 use Rattle.run_core.specs.declared.states.State.{State}
 use Rattle.run_core.specs.declared.states.State.TheVariants as state
 use Rattle.run_core.specs.declared.states.Next.TheVariants.{Finished as Closed}
@@ -25,7 +20,7 @@ use Rattle.run_laws.specs.Worlds.{is_finished}
 use Rattle.run_laws.specs.Worlds.Stage.{Running}
 use Rattle.run_plan.specs.declared.plan.Plan.{Plan}
 use Rattle.run_plan.specs.Openings.{Opening, setting_of, rules_of, tasks_of}
-use Rattle.run_plan.specs.Results.{effect_at, step_of, NotedAs, stores, ends_of, told_ends}
+use Rattle.run_plan.specs.Results.{effect_at, NotedAs}
 use Rattle.run_plan.specs.declared.report.Report.{Report}
 use Rattle.run_plan.specs.Plans.{id_at}
 use Rattle.run_plan.specs.Pages.{page_mark, report_of, block_of, shows, block_at, blocks, has_failed, failed_tasks, worst, good_count, cached_count, script_count, summary_of, page}
@@ -70,7 +65,7 @@ module _ (plan : Plan) (s : Setting) (notes : ℕ → Note) (one other : ℕ →
 
 -- ---- the end of a run
 
-finished-done : (x : State) → is_finished (stage_of x) ≡ is_done x
+pub finished-done : (x : State) → is_finished (stage_of x) ≡ is_done x
 finished-done state.Waiting = refl
 finished-done state.Missed = refl
 finished-done state.Running = refl
@@ -96,16 +91,6 @@ script-below plan t h = elim (cases_lt t (length plan.listing.parts)) [
   | inl b ↦ b
   | inr past ↦ absurd (false≢true (ap has_script (sym (past-blank plan.listing.parts t past)) ∙ h))
 ]
-
-told-step : (plan : Plan) (s : Setting) (steps : List Step) → told_ends (map (step_of plan s) steps) ≡ ends_of steps
-told-step plan s [] = refl
-told-step plan s (Start t ∷ steps) = told-step plan s steps
-told-step plan s (End t x ∷ steps) = ap (λ es. t ∷ es) (told-step plan s steps)
-
-told-push : (steps : List Told) (x : Told) → told_ends (steps ++ x ∷ []) ≡ told_ends steps ++ told_ends (x ∷ [])
-told-push [] x = refl
-told-push (told.Start c ∷ steps) x = told-push steps x
-told-push (told.End e ∷ steps) x = ap (λ es. e.place ∷ es) (told-push steps x)
 
 module _ (laws : Laws) (plan : Plan) (o : Opening) (now : Now) (stands : Stands plan o now) where
   abbrev s : Setting

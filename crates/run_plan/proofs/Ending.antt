@@ -52,7 +52,7 @@ use Rattle.run_plan.specs.Openings.{Opening, setting_of, rules_of, tasks_of}
 use Rattle.run_plan.specs.Results.{effect_at, step_of, left_by, may_store, is_stored, IsNote, Taken, KeptAs, NotedAs, stores, ends_of}
 use Rattle.run_plan.specs.Pages.{report_of, digits_of, page_mark}
 use Rattle.run_plan.specs.Stories.{Now, Story, stage_of, has_ended, progress_of, notes_in, note_in, ReportsAs}
-use Rattle.run_plan.specs.StoryLaws.{Stands, EndIs, KeptIf, to_put, after_this}
+use Rattle.run_plan.specs.StoryLaws.{Stands, EndsNow, EndIs, KeptIf, to_put, after_this}
 use Rattle.run_plan.proofs.Grounds.{Laws}
 use Rattle.run_plan.proofs.Steps.{stages-end, leads-push, puts-push, ends-push, all-ends, filter-agree}
 use Rattle.run_plan.proofs.Standing.{lower, agrees, runs, known-below, running-clean, running-effect, effect-behaves, ended-below, none-now, noted-less, no-note, silent}
@@ -151,8 +151,8 @@ puts-one : (t : ℕ) (b : Bool) → puts_of (Finish t b ∷ []) ≡ cond b (t �
 puts-one t true = refl
 puts-one t false = refl
 
-module _ (laws : Laws) (plan : Plan) (o : Opening) (now : Now) (stands : Stands plan o now) (calm : IsCalm (rules_of plan) now.states) (is : next (rules_of plan) now.states ≡ turn.WaitFirst)
-    (end : Ended) (sound : Bool) (note : Note) (pairs : List Pair) (room : ℕ) (report : Report) (e : EndIs plan now end sound note pairs room report) where
+module _ (laws : Laws) (plan : Plan) (o : Opening) (now : Now) (stands : Stands plan o now)
+    (end : Ended) (sound : Bool) (ends : EndsNow plan now end sound) where
   abbrev s : Setting
   s = setting_of plan o
 
@@ -171,20 +171,20 @@ module _ (laws : Laws) (plan : Plan) (o : Opening) (now : Now) (stands : Stands 
   abbrev left : FileMap
   left = logged (part_at plan.listing end.place) end.log (over now.files (file_at (now.will end.place).files))
 
-  same-effect : effect_at s t ≡ eff
-  same-effect = running-effect laws plan o now stands t e.ends.running
+  pub same-effect : effect_at s t ≡ eff
+  same-effect = running-effect laws plan o now stands t ends.running
 
   below : t < length plan.listing.parts
-  below = known-below laws plan o now stands t (ap is_known e.ends.running)
+  below = known-below laws plan o now stands t (ap is_known ends.running)
 
   to_run : (tasks_of plan o).to_run t ≡ true
-  to_run = ((agrees laws plan o now stands t).known (ap is_known e.ends.running)).run ∙ ap picks e.ends.running
+  to_run = ((agrees laws plan o now stands t).known (ap is_known ends.running)).run ∙ ap picks ends.running
 
   script : has_script (part_at plan.listing t) ≡ true
   script = (and_parts (has_script (part_at plan.listing t)) (not (is_hit (mark_at s t))) to_run).0
 
   behaves : IsEffect outs eff
-  behaves = effect-behaves laws plan o now stands t eff below (running-clean laws plan o now stands t e.ends.running)
+  behaves = effect-behaves laws plan o now stands t eff below (running-clean laws plan o now stands t ends.running)
 
   -- ---- files
 
@@ -196,7 +196,7 @@ module _ (laws : Laws) (plan : Plan) (o : Opening) (now : Now) (stands : Stands 
   owned-left : (path : Path) → takes outs path ≡ true → left path ≡ file_at eff.files path
   owned-left path own =
       no-log path (λ k. true≢false (sym own ∙ ap (takes outs) k ∙ stands.ready.apart.log_outs t t script script))
-      ∙ or-none (file_at eff.files path) (now.files path) ((runs laws plan o now stands).holds.clear t (ap stage_of e.ends.running) path own)
+      ∙ or-none (file_at eff.files path) (now.files path) ((runs laws plan o now stands).holds.clear t (ap stage_of ends.running) path own)
 
   shared-left : (path : Path) → shares outs path ≡ true → left path ≡ o.files path
   shared-left path shared =
@@ -236,124 +236,126 @@ module _ (laws : Laws) (plan : Plan) (o : Opening) (now : Now) (stands : Stands 
     where
       by : (b : Bool) → sound ≡ b → list_all is_good (pick (is_above plan.listing t) (clean plan.mode o.book plan.listing)) ≡ b
       by true h = good-all (is_above plan.listing t) (clean plan.mode o.book plan.listing) (λ a d above k.
-          let g = e.ends.sound_is.good h a above in
+          let g = ends.sound_is.good h a above in
           good-of d (ap status_in (sym k) ∙ (runs laws plan o now stands).holds.told a 0 (finished-zero (now.states a) g.0 g.1)))
       by false h =
-          let w = e.ends.sound_is.bad h in
+          let w = ends.sound_is.bad h in
           let f = failed-is (now.states w.0) w.2 in
           let d = bad-of (slice_get (clean plan.mode o.book plan.listing) w.0) f.0 ((runs laws plan o now stands).holds.told w.0 f.0 f.1) f.2 in
           good-none (is_above plan.listing t) (clean plan.mode o.book plan.listing) w.0 d.0 w.1 d.1 d.2
 
-  may-is : may_store plan s t ≡ to_put plan sound t end.status
+  pub may-is : may_store plan s t ≡ to_put plan sound t end.status
   may-is =
       ap (λ g. caches plan t && (((effect_at s t).status == 0) && g)) sound-is
-      ∙ ap (λ x. caches plan t && ((x == 0) && sound)) (ap (λ x. x.status) same-effect ∙ sym e.ends.status)
+      ∙ ap (λ x. caches plan t && ((x == 0) && sound)) (ap (λ x. x.status) same-effect ∙ sym ends.status)
       ∙ turn-round (caches plan t) (end.status == 0) sound
 
-  pair-is : (taken : List File) → Taken left outs plan.limit taken → pair_for (key_of plan.listing t) (end.log, taken) ≡ due_pair plan.listing t eff
-  pair-is taken is = let log = e.ends.log in let files = taken-is taken is in λ i. (key_of plan.listing t, artifact_text (log i, files i))
+  pub pair-is : (taken : List File) → Taken left outs plan.limit taken → pair_for (key_of plan.listing t) (end.log, taken) ≡ due_pair plan.listing t eff
+  pair-is taken is = let log = ends.log in let files = taken-is taken is in λ i. (key_of plan.listing t, artifact_text (log i, files i))
 
-  abbrev Kept : Bool → Type 0
-  Kept b = MatchBool b (IsNote plan s room t note) (note ≡ Stored) × (pairs ≡ put_if (b && is_stored note) now.pairs (due_pair plan.listing t eff))
+  module _ (calm : IsCalm (rules_of plan) now.states) (is : next (rules_of plan) now.states ≡ turn.WaitFirst)
+      (note : Note) (pairs : List Pair) (room : ℕ) (report : Report) (e : EndIs plan now end sound note pairs room report) where
+    abbrev Kept : Bool → Type 0
+    Kept b = MatchBool b (IsNote plan s room t note) (note ≡ Stored) × (pairs ≡ put_if (b && is_stored note) now.pairs (due_pair plan.listing t eff))
 
-  kept-by : (b : Bool) → KeptIf b (KeptAs left outs plan.limit (key_of plan.listing t) end.log now.pairs room pairs note) note now.pairs pairs → Kept b
-  kept-by true k = by note k
-    where
-      by : (n : Note) → KeptAs left outs plan.limit (key_of plan.listing t) end.log now.pairs room pairs n → IsNote plan s room t n × (pairs ≡ put_if (true && is_stored n) now.pairs (due_pair plan.listing t eff))
-      by Stored (taken, is, put) = (can-take outs left (left_by s t) agree plan.limit taken is, put ∙ ap (λ p. now.pairs ++ p ∷ []) (pair-is taken is))
-      by (Shared path) (first, same) = (shared-first outs left (left_by s t) agree path first, same)
-      by (Large path) (first, same) = (large-first outs left (left_by s t) agree plan.limit path first, same)
-      by Full (taken, is, full, same) =
-          ((can-take outs left (left_by s t) agree plan.limit taken is, subst (λ p. room < ample p) (pair-is taken is ∙ ap (due_pair plan.listing t) (sym same-effect)) full), same)
-  kept-by false k = (k.0, k.1)
+    kept-by : (b : Bool) → KeptIf b (KeptAs left outs plan.limit (key_of plan.listing t) end.log now.pairs room pairs note) note now.pairs pairs → Kept b
+    kept-by true k = by note k
+      where
+        by : (n : Note) → KeptAs left outs plan.limit (key_of plan.listing t) end.log now.pairs room pairs n → IsNote plan s room t n × (pairs ≡ put_if (true && is_stored n) now.pairs (due_pair plan.listing t eff))
+        by Stored (taken, is, put) = (can-take outs left (left_by s t) agree plan.limit taken is, put ∙ ap (λ p. now.pairs ++ p ∷ []) (pair-is taken is))
+        by (Shared path) (first, same) = (shared-first outs left (left_by s t) agree path first, same)
+        by (Large path) (first, same) = (large-first outs left (left_by s t) agree plan.limit path first, same)
+        by Full (taken, is, full, same) =
+            ((can-take outs left (left_by s t) agree plan.limit taken is, subst (λ p. room < ample p) (pair-is taken is ∙ ap (due_pair plan.listing t) (sym same-effect)) full), same)
+    kept-by false k = (k.0, k.1)
 
-  kept : Kept (may_store plan s t)
-  kept = subst Kept (sym may-is) (kept-by (to_put plan sound t end.status) e.kept)
+    kept : Kept (may_store plan s t)
+    kept = subst Kept (sym may-is) (kept-by (to_put plan sound t end.status) e.kept)
 
-  abbrev stores_it : Bool
-  stores_it = may_store plan s t && is_stored note
+    abbrev stores_it : Bool
+    stores_it = may_store plan s t && is_stored note
 
-  -- ---- the move
+    -- ---- the move
 
-  will-same : story.will t ≡ eff
-  will-same = sym (story.will_is t e.ends.running)
+    will-same : story.will t ≡ eff
+    will-same = sym (story.will_is t ends.running)
 
-  abbrev here : Progress
-  here = progress_of now.states now.files now.pairs story.will
+    abbrev here : Progress
+    here = progress_of now.states now.files now.pairs story.will
 
-  may-move : stores_it ≡ true → ((story.will t).status ≡ 0) × ((a : ℕ) → is_above plan.listing t a ≡ true → stage_of (now.states a) ≡ Finished 0)
-  may-move h =
-      let p = and_parts sound ((end.status == 0) && caches plan t) (sym may-is ∙ (and_parts (may_store plan s t) (is_stored note) h).0) in
-      let q = and_parts (end.status == 0) (caches plan t) p.1 in
-      (ap (λ x. x.status) will-same ∙ sym e.ends.status ∙ eqb-true end.status 0 q.0, λ a above. let g = e.ends.sound_is.good p.0 a above in finished-zero (now.states a) g.0 g.1)
+    may-move : stores_it ≡ true → ((story.will t).status ≡ 0) × ((a : ℕ) → is_above plan.listing t a ≡ true → stage_of (now.states a) ≡ Finished 0)
+    may-move h =
+        let p = and_parts sound ((end.status == 0) && caches plan t) (sym may-is ∙ (and_parts (may_store plan s t) (is_stored note) h).0) in
+        let q = and_parts (end.status == 0) (caches plan t) p.1 in
+        (ap (λ x. x.status) will-same ∙ sym ends.status ∙ eqb-true end.status 0 q.0, λ a above. let g = ends.sound_is.good p.0 a above in finished-zero (now.states a) g.0 g.1)
 
-  reaches-it : after s here (Finish t stores_it) ≡ progress_of (after_end (rules_of plan) now.states t end.status) left pairs story.will
-  reaches-it =
-      let low = lower laws plan o now stands in
-      let status : (story.will t).status ≡ end.status = ap (λ x. x.status) will-same ∙ sym e.ends.status in
-      let log : (story.will t).log ≡ end.log = ap (λ x. x.log) will-same ∙ sym e.ends.log in
-      let stages = ap (λ x. Rattle.run_laws.specs.Worlds.put_at (λ u. stage_of (now.states u)) t (Finished x)) status ∙ stages-end plan now.states low calm t end.status e.ends.running in
-      let put = ap (λ x. put_if stores_it now.pairs (due_pair plan.listing t x)) will-same ∙ sym kept.1 in
-      λ i. record {
-        stages = stages i;
-        files = logged (part_at plan.listing t) (log i) (over now.files (file_at (will-same i).files));
-        pairs = put i;
-        will = story.will;
-      }
+    reaches-it : after s here (Finish t stores_it) ≡ progress_of (after_end (rules_of plan) now.states t end.status) left pairs story.will
+    reaches-it =
+        let low = lower laws plan o now stands in
+        let status : (story.will t).status ≡ end.status = ap (λ x. x.status) will-same ∙ sym ends.status in
+        let log : (story.will t).log ≡ end.log = ap (λ x. x.log) will-same ∙ sym ends.log in
+        let stages = ap (λ x. Rattle.run_laws.specs.Worlds.put_at (λ u. stage_of (now.states u)) t (Finished x)) status ∙ stages-end plan now.states low calm t end.status ends.running in
+        let put = ap (λ x. put_if stores_it now.pairs (due_pair plan.listing t x)) will-same ∙ sym kept.1 in
+        λ i. record {
+          stages = stages i;
+          files = logged (part_at plan.listing t) (log i) (over now.files (file_at (will-same i).files));
+          pairs = put i;
+          will = story.will;
+        }
 
-  report-is : report ≡ report_of plan s report.note t
-  report-is =
-      let mark = marked-run (bypasses plan t) (is_some (found_for o.pairs plan.listing t)) (by (is_hit (mark_at s t)) (and_parts (has_script (part_at plan.listing t)) (not (is_hit (mark_at s t))) to_run).1) in
-      let status = e.ends.status ∙ ap (λ x. x.status) (sym same-effect) in
-      let noted = ap (λ r. r.note) e.report_is in
-      e.report_is ∙ (λ i. record { mark = sym mark i; digits = digits_of plan t; status = status i; note = sym noted i })
-    where
-      by : (b : Bool) → not b ≡ true → b ≡ false
-      by true h = absurd (false≢true h)
-      by false h = refl
+    report-is : report ≡ report_of plan s report.note t
+    report-is =
+        let mark = marked-run (bypasses plan t) (is_some (found_for o.pairs plan.listing t)) (by (is_hit (mark_at s t)) (and_parts (has_script (part_at plan.listing t)) (not (is_hit (mark_at s t))) to_run).1) in
+        let status = ends.status ∙ ap (λ x. x.status) (sym same-effect) in
+        let noted = ap (λ r. r.note) e.report_is in
+        e.report_is ∙ (λ i. record { mark = sym mark i; digits = digits_of plan t; status = status i; note = sym noted i })
+      where
+        by : (b : Bool) → not b ≡ true → b ≡ false
+        by true h = absurd (false≢true h)
+        by false h = refl
 
-  note-is : report.note ≡ note
-  note-is = ap (λ r. r.note) e.report_is
+    note-is : report.note ≡ note
+    note-is = ap (λ r. r.note) e.report_is
 
-  pub arm-end : (will : ℕ → Effect) → ((u : ℕ) → u ≢ end.place → now.states u ≡ state.Running → will u ≡ now.will u) → Story plan o (after_this plan now end will pairs room report)
-  arm-end will other_will =
-      let low = lower laws plan o now stands in
-      let cut = end-split plan now.states low calm t end.status e.ends.running in
-      let steps_end : told.End end ≡ step_of plan s (End t end.status) = (let log = e.ends.log ∙ ap (λ x. x.log) (sym same-effect) in λ i. told.End (record { place = end.place; status = end.status; log = log i })) in
-      let moved = leads-push s (opening s) story.moves here (Finish t stores_it) story.leads (ap stage_of e.ends.running, may-move) in
-      let before_ends : AllByRecursion (λ u. stores plan s (notes_in (put_at now.reports t (Some report))) u ≡ stores plan s (notes_in now.reports) u) (ends_of story.mine) =
-      all-ends _ story.mine (λ u h.
-      let w = ended-below laws plan o now stands u h in
-      let other : u ≢ t = λ k. false≢true (ap has_ended (sym e.ends.running) ∙ ap (λ v. has_ended (now.states v)) (sym k) ∙ w.1) in
-      rw (ne_eqb u t other) refl) in
-      let stored_here : stores plan s (notes_in (put_at now.reports t (Some report))) t ≡ stores_it = rw (eq-eqb t t refl) (ap (λ n. may_store plan s t && is_stored n) note-is) in
-      record {
-        book = story.book;
-        mine = story.mine ++ End t end.status ∷ [];
-        steps = ap (λ xs. xs ++ told.End end ∷ []) story.steps ∙ append_assoc o.steps (map (step_of plan s) story.mine) (told.End end ∷ [])
-            ∙ ap (λ x. o.steps ++ (map (step_of plan s) story.mine ++ x ∷ [])) steps_end
-            ∙ ap (λ xs. o.steps ++ xs) (sym (map-append (step_of plan s) story.mine (End t end.status ∷ [])));
-        at = laws.core.move (tasks_of plan o) now.states story.mine (Ends t end.status) story.at (is, below, e.ends.running);
-        moves = story.moves ++ Finish t stores_it ∷ [];
-        will = story.will;
-        leads = subst (Leads s (opening s) (story.moves ++ Finish t stores_it ∷ [])) reaches-it moved;
-        will_is = cut (λ u b x. x ≡ state.Running → will u ≡ story.will u) (λ h. absurd (cc)) (λ u d h. other_will u d h ∙ story.will_is u h) (λ u d k h. absurd (cc));
-        puts = puts-push story.moves (Finish t stores_it)
-            ∙ ap (λ ps. ps ++ puts_of (Finish t stores_it ∷ [])) (story.puts ∙ sym (filter-agree _ _ (ends_of story.mine) before_ends))
-            ∙ ap (λ ps. filter (stores plan s (notes_in (put_at now.reports t (Some report)))) (ends_of story.mine) ++ ps) (puts-one t stores_it ∙ ap (λ b. cond b (t ∷ []) []) (sym stored_here))
-            ∙ sym (filter-append (stores plan s (notes_in (put_at now.reports t (Some report)))) (ends_of story.mine) (t ∷ []))
-            ∙ ap (filter (stores plan s (notes_in (put_at now.reports t (Some report))))) (sym (ends-push story.mine (End t end.status)));
-        reports = cut (λ u b x. ReportsAs (report_of plan s (note_in (cond b (Some report) (now.reports u))) u) (has_script (part_at plan.listing u) && is_done x) (cond b (Some report) (now.reports u)))
-            (subst (λ b. ReportsAs (report_of plan s report.note t) (b && true) (Some report)) (sym script) (ap (λ r. Some r) report-is))
-            (λ u d. story.reports u)
-            (λ u d k. silent _ (has_script (part_at plan.listing u) && false) (now.reports u) (and_right (has_script (part_at plan.listing u)) false refl)
-            (none-now laws plan o now stands u (and_right (has_script (part_at plan.listing u)) (is_done (now.states u)) (unknown-undone (now.states u) k).0)));
-        noted = cut (λ u b x. NotedAs plan s room u (has_ended x) (note_in (cond b (Some report) (now.reports u))))
-            (subst (λ n. MatchBool (may_store plan s t) (IsNote plan s room t n) (n ≡ Stored)) (sym note-is) kept.0)
-            (λ u d. noted-less plan s now.room room u (has_ended (now.states u)) (notes_in now.reports u) e.less (story.noted u))
-            (λ u d k. no-note plan s now.room u (now.states u) (notes_in now.reports u) (unknown-undone (now.states u) k).1 (story.noted u));
-        logs = cut (λ u b x. (has_script (part_at plan.listing u) && is_done x) ≡ true → now.shown ≤ u → cond b end.log (now.logs u) ≡ (effect_at s u).log)
-            (λ h less. e.ends.log ∙ ap (λ x. x.log) (sym same-effect))
-            (λ u d h less. story.logs u h less)
-            (λ u d k h less. absurd (true≢false (sym h ∙ and_right (has_script (part_at plan.listing u)) false refl)));
-      }
+    pub arm-end : (will : ℕ → Effect) → ((u : ℕ) → u ≢ end.place → now.states u ≡ state.Running → will u ≡ now.will u) → Story plan o (after_this plan now end will pairs room report)
+    arm-end will other_will =
+        let low = lower laws plan o now stands in
+        let cut = end-split plan now.states low calm t end.status ends.running in
+        let steps_end : told.End end ≡ step_of plan s (End t end.status) = (let log = ends.log ∙ ap (λ x. x.log) (sym same-effect) in λ i. told.End (record { place = end.place; status = end.status; log = log i })) in
+        let moved = leads-push s (opening s) story.moves here (Finish t stores_it) story.leads (ap stage_of ends.running, may-move) in
+        let before_ends : AllByRecursion (λ u. stores plan s (notes_in (put_at now.reports t (Some report))) u ≡ stores plan s (notes_in now.reports) u) (ends_of story.mine) =
+        all-ends _ story.mine (λ u h.
+        let w = ended-below laws plan o now stands u h in
+        let other : u ≢ t = λ k. false≢true (ap has_ended (sym ends.running) ∙ ap (λ v. has_ended (now.states v)) (sym k) ∙ w.1) in
+        rw (ne_eqb u t other) refl) in
+        let stored_here : stores plan s (notes_in (put_at now.reports t (Some report))) t ≡ stores_it = rw (eq-eqb t t refl) (ap (λ n. may_store plan s t && is_stored n) note-is) in
+        record {
+          book = story.book;
+          mine = story.mine ++ End t end.status ∷ [];
+          steps = ap (λ xs. xs ++ told.End end ∷ []) story.steps ∙ append_assoc o.steps (map (step_of plan s) story.mine) (told.End end ∷ [])
+              ∙ ap (λ x. o.steps ++ (map (step_of plan s) story.mine ++ x ∷ [])) steps_end
+              ∙ ap (λ xs. o.steps ++ xs) (sym (map-append (step_of plan s) story.mine (End t end.status ∷ [])));
+          at = laws.core.move (tasks_of plan o) now.states story.mine (Ends t end.status) story.at (is, below, ends.running);
+          moves = story.moves ++ Finish t stores_it ∷ [];
+          will = story.will;
+          leads = subst (Leads s (opening s) (story.moves ++ Finish t stores_it ∷ [])) reaches-it moved;
+          will_is = cut (λ u b x. x ≡ state.Running → will u ≡ story.will u) (λ h. absurd (cc)) (λ u d h. other_will u d h ∙ story.will_is u h) (λ u d k h. absurd (cc));
+          puts = puts-push story.moves (Finish t stores_it)
+              ∙ ap (λ ps. ps ++ puts_of (Finish t stores_it ∷ [])) (story.puts ∙ sym (filter-agree _ _ (ends_of story.mine) before_ends))
+              ∙ ap (λ ps. filter (stores plan s (notes_in (put_at now.reports t (Some report)))) (ends_of story.mine) ++ ps) (puts-one t stores_it ∙ ap (λ b. cond b (t ∷ []) []) (sym stored_here))
+              ∙ sym (filter-append (stores plan s (notes_in (put_at now.reports t (Some report)))) (ends_of story.mine) (t ∷ []))
+              ∙ ap (filter (stores plan s (notes_in (put_at now.reports t (Some report))))) (sym (ends-push story.mine (End t end.status)));
+          reports = cut (λ u b x. ReportsAs (report_of plan s (note_in (cond b (Some report) (now.reports u))) u) (has_script (part_at plan.listing u) && is_done x) (cond b (Some report) (now.reports u)))
+              (subst (λ b. ReportsAs (report_of plan s report.note t) (b && true) (Some report)) (sym script) (ap (λ r. Some r) report-is))
+              (λ u d. story.reports u)
+              (λ u d k. silent _ (has_script (part_at plan.listing u) && false) (now.reports u) (and_right (has_script (part_at plan.listing u)) false refl)
+              (none-now laws plan o now stands u (and_right (has_script (part_at plan.listing u)) (is_done (now.states u)) (unknown-undone (now.states u) k).0)));
+          noted = cut (λ u b x. NotedAs plan s room u (has_ended x) (note_in (cond b (Some report) (now.reports u))))
+              (subst (λ n. MatchBool (may_store plan s t) (IsNote plan s room t n) (n ≡ Stored)) (sym note-is) kept.0)
+              (λ u d. noted-less plan s now.room room u (has_ended (now.states u)) (notes_in now.reports u) e.less (story.noted u))
+              (λ u d k. no-note plan s now.room u (now.states u) (notes_in now.reports u) (unknown-undone (now.states u) k).1 (story.noted u));
+          logs = cut (λ u b x. (has_script (part_at plan.listing u) && is_done x) ≡ true → now.shown ≤ u → cond b end.log (now.logs u) ≡ (effect_at s u).log)
+              (λ h less. ends.log ∙ ap (λ x. x.log) (sym same-effect))
+              (λ u d h less. story.logs u h less)
+              (λ u d k h less. absurd (true≢false (sym h ∙ and_right (has_script (part_at plan.listing u)) false refl)));
+        }

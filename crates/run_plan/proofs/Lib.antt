@@ -7,5 +7,7 @@ mod Arms
 pub mod Taking
 pub mod Ending
 pub mod Closing
+mod LateEnds
+mod Stopping
 mod Whole
 pub mod ReportFacts

@@ -1,7 +1,7 @@
 -- What a run is to make of each task: its effect, whether its result is put into the cache, and what its block notes
 -- where it is not (Turborepo docs, "Caching": a task is put into the cache when it has ended with status 0; notes are
 -- this project's own).
-use Rattle.std.specs.Prelude.{◌≡◌, ◌⊎◌, ℕ, ◌<◌, ◌==◌, Bool, true, false, ◌&&◌, List, [], ◌∷◌, ◌++◌, map, filter, MatchBool, IsTrue}
+use Rattle.std.specs.Prelude.{◌≡◌, ℕ, ◌<◌, ◌==◌, Bool, true, false, ◌&&◌, List, [], ◌∷◌, ◌++◌, map, filter, MatchBool, IsTrue}
 use Rattle.std.specs.List.{list_all}
 use Rattle.rel_path.specs.Paths.{Path}
 use Rattle.rel_path.specs.Files.{FileMap}

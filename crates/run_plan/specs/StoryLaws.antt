@@ -9,7 +9,6 @@ use Rattle.page.specs.declared.blocks.Note.{Note}
 use Rattle.page.specs.declared.blocks.Note.TheVariants.{Stored}
 use Rattle.spawn_dev.specs.declared.effect.Effect.{Effect}
 use Rattle.spawn_dev.specs.declared.command.Ended.{Ended}
-use Rattle.spawn_dev.specs.declared.command.Step.{Step as Told}
 use Rattle.spawn_dev.specs.declared.command.Step.TheVariants as told
 use Rattle.spawn_dev.specs.Effects.{seen_by}
 use Rattle.spawn_dev.specs.Spawn.{put_at}

@@ -2,8 +2,10 @@
 //! each, and what a run of it is to leave.
 //!
 //! `specs/` says when a plan is valid (`Plans`), which command a task has (`Commands`), what is to become of each task
-//! (`Results`), what the page is (`Pages`) and what that of a dry run (`DryPages`), and what a run leaves (`Answers`). `Stories` and `StoryLaws` are for whoever
-//! proves a loop: how a run came to where it is, and what each of its moves does to that. There is no device here.
+//! (`Results`), what the page is (`Pages`) and what that of a dry run (`DryPages`), what a run leaves (`Answers`), and how
+//! often one that only looks tasks up may read the cache (`Costs`). `Stories`, `StoryLaws` and `Halts` are for whoever
+//! proves a loop: how a run came to where it is, what each of its moves does to that, and what is kept where one fails.
+//! There is no device here.
 #![tactic(auto)]
 
 mod command;
@@ -21,7 +23,7 @@ mod tables;
 
 pub use error::PlanErr;
 pub use keys::digits;
-pub use laws::story_law;
+pub use laws::{halt_law, story_law};
 pub use lists::{PairLists, TaskDefs};
 pub use plan::Plan;
 pub use report::Report;

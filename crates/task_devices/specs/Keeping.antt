@@ -20,8 +20,8 @@ PutAs pair before room after Full = (room < ample pair) × (after ≡ before)
 abbrev pub MayBePut : Pair → List Pair → List Pair → Type 0
 MayBePut pair before after = (after ≡ before) ⊎ (after ≡ before ++ pair ∷ [])
 
--- The result with this log was to be put, and its pair stands behind the others: its files are those that the task owns,
--- in order, of which none is shared or too large.
+-- The result with this log was to be put, and its pair stands behind the others: its files are
+-- those that the task owns, in order, of which none is shared or too large.
 pub record IsKept (put : Bool) (files : FileMap) (outs : OutSet) (limit : ℕ) (key log : List ℕ)
     (before after : List Pair) : Type 0 where
   pub may : put ≡ true
@@ -30,7 +30,8 @@ pub record IsKept (put : Bool) (files : FileMap) (outs : OutSet) (limit : ℕ) (
   pub pairs_are : after ≡ before ++ pair_for key (log, taken) ∷ []
 
 -- it stands there or not
-abbrev pub MayBeKept : Bool → FileMap → OutSet → ℕ → List ℕ → List ℕ → List Pair → List Pair → Type 0
+abbrev pub MayBeKept : Bool → FileMap → OutSet → ℕ → List ℕ → List ℕ → List Pair → List Pair
+    → Type 0
 MayBeKept put files outs limit key log before after =
     (after ≡ before) ⊎ IsKept put files outs limit key log before after
 

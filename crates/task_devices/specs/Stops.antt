@@ -20,23 +20,43 @@ pub record Faults : Type 0 where
   pub start : ℕ
   pub sink : ℕ
 
--- a fault comes only where its own count rose and no other did; every other answer leaves all of them
+-- a fault comes only where its own count rose and no other did; every other answer leaves all of
+-- them as they are
 abbrev pub StopsBy : {T : Type 0} → Faults → Faults → Result T RunErr → Type 0
 StopsBy old new (Ok _) = new ≡ old
-StopsBy old new (Err TreeFault) = Rose old.tree new.tree × (new.store ≡ old.store) × (new.start ≡ old.start) × (new.sink ≡ old.sink)
-StopsBy old new (Err StoreFault) = Rose old.store new.store × (new.tree ≡ old.tree) × (new.start ≡ old.start) × (new.sink ≡ old.sink)
-StopsBy old new (Err StartFault) = Rose old.start new.start × (new.tree ≡ old.tree) × (new.store ≡ old.store) × (new.sink ≡ old.sink)
-StopsBy old new (Err SinkFault) = Rose old.sink new.sink × (new.tree ≡ old.tree) × (new.store ≡ old.store) × (new.start ≡ old.start)
+StopsBy old new (Err TreeFault) =
+    Rose old.tree new.tree × (new.store ≡ old.store) × (new.start ≡ old.start)
+    × (new.sink ≡ old.sink)
+StopsBy old new (Err StoreFault) =
+    Rose old.store new.store × (new.tree ≡ old.tree) × (new.start ≡ old.start)
+    × (new.sink ≡ old.sink)
+StopsBy old new (Err StartFault) =
+    Rose old.start new.start × (new.tree ≡ old.tree) × (new.store ≡ old.store)
+    × (new.sink ≡ old.sink)
+StopsBy old new (Err SinkFault) =
+    Rose old.sink new.sink × (new.tree ≡ old.tree) × (new.store ≡ old.store)
+    × (new.start ≡ old.start)
 StopsBy old new (Err OutOfMemory) = new ≡ old
 
--- The same after all running commands were waited for, which may fail too: then the count of starts and waits may have risen.
+-- The same after all running commands were waited for, which may fail too: then the count of starts
+-- and waits may have risen.
 abbrev pub EndsBy : {T : Type 0} → Faults → Faults → Result T RunErr → Type 0
 EndsBy old new (Ok _) = new ≡ old
-EndsBy old new (Err TreeFault) = Rose old.tree new.tree × (new.store ≡ old.store) × (old.start ≤ new.start) × (new.sink ≡ old.sink)
-EndsBy old new (Err StoreFault) = Rose old.store new.store × (new.tree ≡ old.tree) × (old.start ≤ new.start) × (new.sink ≡ old.sink)
-EndsBy old new (Err StartFault) = Rose old.start new.start × (new.tree ≡ old.tree) × (new.store ≡ old.store) × (new.sink ≡ old.sink)
-EndsBy old new (Err SinkFault) = Rose old.sink new.sink × (new.tree ≡ old.tree) × (new.store ≡ old.store) × (old.start ≤ new.start)
-EndsBy old new (Err OutOfMemory) = (new.tree ≡ old.tree) × (new.store ≡ old.store) × (old.start ≤ new.start) × (new.sink ≡ old.sink)
+EndsBy old new (Err TreeFault) =
+    Rose old.tree new.tree × (new.store ≡ old.store) × (old.start ≤ new.start)
+    × (new.sink ≡ old.sink)
+EndsBy old new (Err StoreFault) =
+    Rose old.store new.store × (new.tree ≡ old.tree) × (old.start ≤ new.start)
+    × (new.sink ≡ old.sink)
+EndsBy old new (Err StartFault) =
+    Rose old.start new.start × (new.tree ≡ old.tree) × (new.store ≡ old.store)
+    × (new.sink ≡ old.sink)
+EndsBy old new (Err SinkFault) =
+    Rose old.sink new.sink × (new.tree ≡ old.tree) × (new.store ≡ old.store)
+    × (old.start ≤ new.start)
+EndsBy old new (Err OutOfMemory) =
+    (new.tree ≡ old.tree) × (new.store ≡ old.store) × (old.start ≤ new.start)
+    × (new.sink ≡ old.sink)
 
 abbrev pub faults_of : ℕ → ℕ → ℕ → ℕ → Faults
 faults_of tree store start sink = record { tree = tree; store = store; start = start; sink = sink }

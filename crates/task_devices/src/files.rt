@@ -84,8 +84,10 @@ pub fn put_back<W: Spawner, C: Cache>(
         ≤ (C.state cache.old).probes + span_count hit.now }
     ensures whole { OnOk result (IsTrue (C.state cache.new).whole) }
     ensures cause { StopsBy
-        (faults_of (W.state world.old).faults (C.state cache.old).faults (W.runs world.old).faults 0)
-        (faults_of (W.state world.new).faults (C.state cache.new).faults (W.runs world.new).faults 0)
+        (faults_of (W.state world.old).faults (C.state cache.old).faults
+        (W.runs world.old).faults 0)
+        (faults_of (W.state world.new).faults (C.state cache.new).faults
+        (W.runs world.new).faults 0)
         result }
 {
     match capture::restore_hit(alloc, world, &plan.part(place).outs, cache, hit) {

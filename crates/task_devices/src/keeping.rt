@@ -89,8 +89,10 @@ fn store<W: Spawner, C: Cache>(
     ensures keeps { Keeps (C.state cache.old) (C.state cache.new) }
     ensures whole { OnOk result (IsTrue (C.state cache.new).whole) }
     ensures cause { StopsBy
-        (faults_of (W.state world.old).faults (C.state cache.old).faults (W.runs world.old).faults 0)
-        (faults_of (W.state world.new).faults (C.state cache.new).faults (W.runs world.new).faults 0)
+        (faults_of (W.state world.old).faults (C.state cache.old).faults
+        (W.runs world.old).faults 0)
+        (faults_of (W.state world.new).faults (C.state cache.new).faults
+        (W.runs world.new).faults 0)
         result }
 {
     match take(alloc, world, &plan.part(place).outs, log, plan.limit) {
@@ -152,8 +154,10 @@ pub fn keep<W: Spawner, C: Cache>(
     ensures keeps { Keeps (C.state cache.old) (C.state cache.new) }
     ensures whole { OnOk result (IsTrue (C.state cache.new).whole) }
     ensures cause { StopsBy
-        (faults_of (W.state world.old).faults (C.state cache.old).faults (W.runs world.old).faults 0)
-        (faults_of (W.state world.new).faults (C.state cache.new).faults (W.runs world.new).faults 0)
+        (faults_of (W.state world.old).faults (C.state cache.old).faults
+        (W.runs world.old).faults 0)
+        (faults_of (W.state world.new).faults (C.state cache.new).faults
+        (W.runs world.new).faults 0)
         result }
 {
     if !is_to_put(plan, sound, ended.place, ended.status) {

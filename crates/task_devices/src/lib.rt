@@ -1,6 +1,6 @@
-//! What is done to the devices of a run for one task: its files are removed, put back or taken as its result, its log file
-//! is written, its command started and waited for, and its result looked up in the cache or kept there. Each fault is
-//! answered as that of its device.
+//! What is done to the devices of a run for one task: its files are removed, put back or taken, its
+//! log file is written, its command started and waited for, and its result looked up in the cache or
+//! kept there. Each fault is answered as that of its device.
 #![tactic(auto)]
 
 mod commands;

@@ -11,7 +11,7 @@ use Rattle.cache_api.specs.Pairs.{chosen}
 use Rattle.pair_writer.specs.Learning.{GoesOn}
 use Rattle.pair_writer.specs.Laws.{knows_after}
 use Rattle.pair_writer.specs.Staged.{entries}
-use Rattle.artifact_store.specs.Index.{FramesBelow, IsIndexOf}
+use Rattle.pair_index.specs.Index.{FramesBelow, IsIndexOf}
 use Rattle.artifact_store.proofs.After.{indexes_held, indexes_behind, known_after}
 use Rattle.artifact_store.proofs.put.append_staged.Goals as goal
 

@@ -4,4 +4,8 @@ use Rattle.task_devices.proofs.files.keep_log.Goals as goal
 
 pub returns-in-Ok-clause-logged : goal.returns-in-Ok-clause-logged
 returns-in-Ok-clause-logged g c told =
-    logged_is (part_at c.args.plan.now.listing c.args.place) c.args.log.now c.in_ok-path.path (g.W.Tree.state c.args.world.now).files (g.W.Tree.state c.write.new.self).files c.in_ok-path.ensures.path (c.in-Ok.ensures.others told) (c.in-Ok.ensures.written told)
+    let part = part_at c.args.plan.now.listing c.args.place in
+    let old = g.W.Tree.state c.args.world.now in
+    let new = g.W.Tree.state c.write.new.self in
+    logged_is part c.args.log.now c.in_ok-path.path old.files new.files c.in_ok-path.ensures.path
+    (c.in-Ok.ensures.others told) (c.in-Ok.ensures.written told)

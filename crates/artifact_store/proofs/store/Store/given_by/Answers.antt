@@ -13,8 +13,8 @@ use Rattle.pair_frames.specs.Pairs.{pairs_in}
 use Rattle.artifact_reader.specs.Parts.{shown_in}
 use Rattle.pair_reader.specs.Frames.{pair_at, cost_of, reads_of}
 use Rattle.pair_reader.specs.Answers.{places_of}
-use Rattle.artifact_store.specs.Costs.{cost_at}
-use Rattle.artifact_store.specs.Index.{IsIndexOf}
+use Rattle.pair_index.specs.Costs.{cost_at}
+use Rattle.pair_index.specs.Index.{IsIndexOf}
 use Rattle.artifact_store.proofs.Given.{frame_below, holds_there, pair_there, cost_there, no_frame}
 use Rattle.artifact_store.proofs.store.Store.given_by.Goals as goal
 

@@ -1,9 +1,7 @@
-use Rattle.std.proofs.Common.{◌≡◌, ◌≤◌, ◌+◌, ℕ, Bool, List, [], get_or, Option, Some, None, refl, sym, ◌∙◌, ap, subst, arith}
+use Rattle.std.proofs.Common.{◌≡◌, ◌≤◌, ◌+◌, ℕ, Bool, List, Option, Some, None, refl, sym, ◌∙◌, ap, subst, arith}
 use Rattle.codes.specs.Views.{found_as}
 use Rattle.cache_api.specs.declared.hit.Hit.{Hit}
 use Rattle.cache_api.specs.Artifacts.{Artifact}
-use Rattle.cache_api.specs.Found.{given}
-use Rattle.cache_api.specs.Reading.{artifact_in}
 use Rattle.cache_api.specs.Hits.{span_count}
 use Rattle.record_log.specs.Kinds.{Entry}
 use Rattle.cache_api.specs.Keys.{text_of}
@@ -14,12 +12,11 @@ use Rattle.pair_frames.specs.Pairs.{pairs_in}
 use Rattle.artifact_reader.specs.Parts.{shown_in}
 use Rattle.pair_reader.specs.Frames as frame
 use Rattle.pair_reader.specs.Answers.{places_of}
-use Rattle.artifact_store.specs.Costs.{cost_at}
 use Rattle.pair_reader.specs.declared.wanted.Lengths.{Lengths}
-use Rattle.artifact_store.specs.Keys.{IsKeysOf, is_sought_by_print, number_at, IsBehind}
-use Rattle.artifact_store.specs.Index.{IsIndexOf}
+use Rattle.pair_index.specs.Keys.{IsKeysOf, is_sought_by_print, number_at, IsBehind}
+use Rattle.pair_index.specs.Index.{IsIndexOf}
 use Rattle.artifact_store.proofs.Carry.{reads_both}
-use Rattle.artifact_store.proofs.Looking.{behind, behind_le, marked_of, IsMarked, IsLooked, begun, inside_at, few_at, most_at, answer_at, next_at, found_none, cost_end, reads_end}
+use Rattle.artifact_store.proofs.Looking.{cost_if, given_if, behind, behind_le, marked_of, IsMarked, IsLooked, begun, inside_at, few_at, most_at, answer_at, next_at, found_none, cost_end, reads_end}
 use Rattle.artifact_store.proofs.store.Store.search.Goals as goal
 
 pub loop-last-init : goal.loop-last-init
@@ -38,8 +35,8 @@ loop-last-init g c =
           let x : IsKeysOf keys (pairs_in fs) =
           (subst (IsIndexOf store.index) (known_whole store.log c.requires told) (store.indexed.told told)).keys in
           record {
-            costs = begun keys fs x by key c.args.outs.now (probes_of store.log) frame.cost_of last c.last-last.ensures;
-            reads = begun keys fs x by key c.args.outs.now (probes_of store.log) frame.reads_of last c.last-last.ensures;
+            costs = begun keys fs x by key c.args.outs.now c.args.seen.now (probes_of store.log) frame.cost_of last c.last-last.ensures;
+            reads = begun keys fs x by key c.args.outs.now c.args.seen.now (probes_of store.log) frame.reads_of last c.last-last.ensures;
           };
     }
 
@@ -66,6 +63,7 @@ returns-in_err-hit-clause-few g c told =
     let by = c.seeks_print-by_print.result in
     let key = text_of c.args.key.now in
     let outs = c.args.outs.now in
+    let seen = c.args.seen.now in
     let start = probes_of store.log in
     let at = c.in-Some.at in
     let reads = c.loop-last.invariant.reads in
@@ -77,9 +75,9 @@ returns-in_err-hit-clause-few g c told =
     (subst (IsIndexOf store.index) (known_whole store.log c.requires told) (store.indexed.told told)).keys in
     let is = by_text keys.lengths c.seeks_print-by_print.ensures c.text.ensures in
     let same = frames_read store.log now.log reads.log in
-    let looked = subst (IsLooked keys fs by key outs start (probes_of now.log)) c.in-Some.is (c.loop-last.invariant.looked told) in
-    let lt = inside_at keys fs x by key outs start at marked.0 marked.1 (log_frames now.log) c.number-number.result same num is (probes_of now.log) looked in
-    few_at keys fs x by key outs start at marked.0 marked.1 (log_frames now.log) c.number-number.result same num is (probes_of now.log) looked (probes_of c.given_by.new.self.log) (c.given_by.ensures.few told lt)
+    let looked = subst (IsLooked keys fs by key outs seen start (probes_of now.log)) c.in-Some.is (c.loop-last.invariant.looked told) in
+    let lt = inside_at keys fs x by key outs seen start at marked.0 marked.1 (log_frames now.log) c.number-number.result same num is (probes_of now.log) looked in
+    few_at keys fs x by key outs seen start at marked.0 marked.1 (log_frames now.log) c.number-number.result same num is (probes_of now.log) looked (probes_of c.given_if_seen.new.self.log) (c.given_if_seen.ensures.few told lt)
 
 pub returns-in_err-hit-clause-most : goal.returns-in_err-hit-clause-most
 returns-in_err-hit-clause-most g c told =
@@ -89,6 +87,7 @@ returns-in_err-hit-clause-most g c told =
     let by = c.seeks_print-by_print.result in
     let key = text_of c.args.key.now in
     let outs = c.args.outs.now in
+    let seen = c.args.seen.now in
     let start = probes_of store.log in
     let at = c.in-Some.at in
     let reads = c.loop-last.invariant.reads in
@@ -100,9 +99,9 @@ returns-in_err-hit-clause-most g c told =
     (subst (IsIndexOf store.index) (known_whole store.log c.requires told) (store.indexed.told told)).keys in
     let is = by_text keys.lengths c.seeks_print-by_print.ensures c.text.ensures in
     let same = frames_read store.log now.log reads.log in
-    let looked = subst (IsLooked keys fs by key outs start (probes_of now.log)) c.in-Some.is (c.loop-last.invariant.looked told) in
-    let lt = inside_at keys fs x by key outs start at marked.0 marked.1 (log_frames now.log) c.number-number.result same num is (probes_of now.log) looked in
-    most_at keys fs x by key outs start at marked.0 marked.1 (log_frames now.log) c.number-number.result same num is (probes_of now.log) looked (probes_of c.given_by.new.self.log) (c.given_by.ensures.most told lt)
+    let looked = subst (IsLooked keys fs by key outs seen start (probes_of now.log)) c.in-Some.is (c.loop-last.invariant.looked told) in
+    let lt = inside_at keys fs x by key outs seen start at marked.0 marked.1 (log_frames now.log) c.number-number.result same num is (probes_of now.log) looked in
+    most_at keys fs x by key outs seen start at marked.0 marked.1 (log_frames now.log) c.number-number.result same num is (probes_of now.log) looked (probes_of c.given_if_seen.new.self.log) (c.given_if_seen.ensures.most told lt)
 
 pub returns-in-Some-2-clause-found : goal.returns-in-Some-2-clause-found
 returns-in-Some-2-clause-found g c told =
@@ -112,6 +111,7 @@ returns-in-Some-2-clause-found g c told =
     let by = c.seeks_print-by_print.result in
     let key = text_of c.args.key.now in
     let outs = c.args.outs.now in
+    let seen = c.args.seen.now in
     let start = probes_of store.log in
     let at = c.in-Some.at in
     let reads = c.loop-last.invariant.reads in
@@ -123,9 +123,9 @@ returns-in-Some-2-clause-found g c told =
     (subst (IsIndexOf store.index) (known_whole store.log c.requires told) (store.indexed.told told)).keys in
     let is = by_text keys.lengths c.seeks_print-by_print.ensures c.text.ensures in
     let same = frames_read store.log now.log reads.log in
-    let looked = subst (IsLooked keys fs by key outs start (probes_of now.log)) c.in-Some.is (c.loop-last.invariant.looked told) in
-    let lt = inside_at keys fs x by key outs start at marked.0 marked.1 (log_frames now.log) c.number-number.result same num is (probes_of now.log) looked in
-    answer_at keys fs x by key outs start at marked.0 marked.1 (log_frames now.log) c.number-number.result same num is (probes_of now.log) looked (shown_in (frames_text fs) c.in-Some-2.hit) (seen_as c.in-Some-2.hit (log_frames now.log) fs same c.in_ok-hit.field-0 c.in-Some-2.is _ (c.in_ok-hit.ensures.given told lt) ∙ ap (λ (k : List ℕ). given artifact_in k outs (get_or (pairs_in (log_frames now.log)) c.number-number.result ([], []))) c.text-in-Some.ensures)
+    let looked = subst (IsLooked keys fs by key outs seen start (probes_of now.log)) c.in-Some.is (c.loop-last.invariant.looked told) in
+    let lt = inside_at keys fs x by key outs seen start at marked.0 marked.1 (log_frames now.log) c.number-number.result same num is (probes_of now.log) looked in
+    answer_at keys fs x by key outs seen start at marked.0 marked.1 (log_frames now.log) c.number-number.result same num is (probes_of now.log) looked (shown_in (frames_text fs) c.in-Some-2.hit) (seen_as c.in-Some-2.hit (log_frames now.log) fs same c.in_ok-hit.field-0 c.in-Some-2.is _ (c.in_ok-hit.ensures.given told lt) ∙ ap (λ (k : List ℕ). given_if seen k outs (log_frames now.log) c.number-number.result) c.text-in-Some.ensures)
 
 pub returns-in-Some-2-clause-few : goal.returns-in-Some-2-clause-few
 returns-in-Some-2-clause-few g c told =
@@ -135,6 +135,7 @@ returns-in-Some-2-clause-few g c told =
     let by = c.seeks_print-by_print.result in
     let key = text_of c.args.key.now in
     let outs = c.args.outs.now in
+    let seen = c.args.seen.now in
     let start = probes_of store.log in
     let at = c.in-Some.at in
     let reads = c.loop-last.invariant.reads in
@@ -146,9 +147,9 @@ returns-in-Some-2-clause-few g c told =
     (subst (IsIndexOf store.index) (known_whole store.log c.requires told) (store.indexed.told told)).keys in
     let is = by_text keys.lengths c.seeks_print-by_print.ensures c.text.ensures in
     let same = frames_read store.log now.log reads.log in
-    let looked = subst (IsLooked keys fs by key outs start (probes_of now.log)) c.in-Some.is (c.loop-last.invariant.looked told) in
-    let lt = inside_at keys fs x by key outs start at marked.0 marked.1 (log_frames now.log) c.number-number.result same num is (probes_of now.log) looked in
-    few_at keys fs x by key outs start at marked.0 marked.1 (log_frames now.log) c.number-number.result same num is (probes_of now.log) looked (probes_of c.given_by.new.self.log) (c.given_by.ensures.few told lt)
+    let looked = subst (IsLooked keys fs by key outs seen start (probes_of now.log)) c.in-Some.is (c.loop-last.invariant.looked told) in
+    let lt = inside_at keys fs x by key outs seen start at marked.0 marked.1 (log_frames now.log) c.number-number.result same num is (probes_of now.log) looked in
+    few_at keys fs x by key outs seen start at marked.0 marked.1 (log_frames now.log) c.number-number.result same num is (probes_of now.log) looked (probes_of c.given_if_seen.new.self.log) (c.given_if_seen.ensures.few told lt)
 
 pub returns-in-Some-2-clause-most : goal.returns-in-Some-2-clause-most
 returns-in-Some-2-clause-most g c told =
@@ -158,6 +159,7 @@ returns-in-Some-2-clause-most g c told =
     let by = c.seeks_print-by_print.result in
     let key = text_of c.args.key.now in
     let outs = c.args.outs.now in
+    let seen = c.args.seen.now in
     let start = probes_of store.log in
     let at = c.in-Some.at in
     let reads = c.loop-last.invariant.reads in
@@ -169,9 +171,9 @@ returns-in-Some-2-clause-most g c told =
     (subst (IsIndexOf store.index) (known_whole store.log c.requires told) (store.indexed.told told)).keys in
     let is = by_text keys.lengths c.seeks_print-by_print.ensures c.text.ensures in
     let same = frames_read store.log now.log reads.log in
-    let looked = subst (IsLooked keys fs by key outs start (probes_of now.log)) c.in-Some.is (c.loop-last.invariant.looked told) in
-    let lt = inside_at keys fs x by key outs start at marked.0 marked.1 (log_frames now.log) c.number-number.result same num is (probes_of now.log) looked in
-    most_at keys fs x by key outs start at marked.0 marked.1 (log_frames now.log) c.number-number.result same num is (probes_of now.log) looked (probes_of c.given_by.new.self.log) (c.given_by.ensures.most told lt)
+    let looked = subst (IsLooked keys fs by key outs seen start (probes_of now.log)) c.in-Some.is (c.loop-last.invariant.looked told) in
+    let lt = inside_at keys fs x by key outs seen start at marked.0 marked.1 (log_frames now.log) c.number-number.result same num is (probes_of now.log) looked in
+    most_at keys fs x by key outs seen start at marked.0 marked.1 (log_frames now.log) c.number-number.result same num is (probes_of now.log) looked (probes_of c.given_if_seen.new.self.log) (c.given_if_seen.ensures.most told lt)
 
 pub returns-in-Some-2-clause-cost : goal.returns-in-Some-2-clause-cost
 returns-in-Some-2-clause-cost g c told =
@@ -181,6 +183,7 @@ returns-in-Some-2-clause-cost g c told =
     let by = c.seeks_print-by_print.result in
     let key = text_of c.args.key.now in
     let outs = c.args.outs.now in
+    let seen = c.args.seen.now in
     let start = probes_of store.log in
     let at = c.in-Some.at in
     let reads = c.loop-last.invariant.reads in
@@ -192,14 +195,14 @@ returns-in-Some-2-clause-cost g c told =
     (subst (IsIndexOf store.index) (known_whole store.log c.requires told) (store.indexed.told told)).keys in
     let is = by_text keys.lengths c.seeks_print-by_print.ensures c.text.ensures in
     let same = frames_read store.log now.log reads.log in
-    let looked = subst (IsLooked keys fs by key outs start (probes_of now.log)) c.in-Some.is (c.loop-last.invariant.looked told) in
-    let lt = inside_at keys fs x by key outs start at marked.0 marked.1 (log_frames now.log) c.number-number.result same num is (probes_of now.log) looked in
-    most_at keys fs x by key outs start at marked.0 marked.1 (log_frames now.log) c.number-number.result same num is (probes_of now.log) looked (probes_of c.given_by.new.self.log + span_count c.in-Some-2.hit)
-    (subst (λ o. probes_of c.given_by.new.self.log + places_of o ≤ probes_of now.log + cost_at frame.cost_of (log_frames now.log) c.number-number.result) c.in-Some-2.is (c.in_ok-hit.ensures.cost told lt))
+    let looked = subst (IsLooked keys fs by key outs seen start (probes_of now.log)) c.in-Some.is (c.loop-last.invariant.looked told) in
+    let lt = inside_at keys fs x by key outs seen start at marked.0 marked.1 (log_frames now.log) c.number-number.result same num is (probes_of now.log) looked in
+    most_at keys fs x by key outs seen start at marked.0 marked.1 (log_frames now.log) c.number-number.result same num is (probes_of now.log) looked (probes_of c.given_if_seen.new.self.log + span_count c.in-Some-2.hit)
+    (subst (λ o. probes_of c.given_if_seen.new.self.log + places_of o ≤ probes_of now.log + cost_if seen frame.cost_of (log_frames now.log) c.number-number.result) c.in-Some-2.is (c.in_ok-hit.ensures.cost told lt))
 
 pub loop-last-smaller : goal.loop-last-smaller
 loop-last-smaller g c =
-    let le = behind_le c.seeks_print-by_print.result c.given_by.new.self.index.keys (text_of c.args.key.now) c.in-Some.at c.before-last.result c.before-last.ensures in
+    let le = behind_le c.seeks_print-by_print.result c.given_if_seen.new.self.index.keys (text_of c.args.key.now) c.in-Some.at c.before-last.result c.before-last.ensures in
     let was : behind c.loop-last.last ≡ c.in-Some.at + 1 = ap behind c.in-Some.is in
     omega (arith, le, was)
 
@@ -211,14 +214,15 @@ loop-last-preserved g c =
     let by = c.seeks_print-by_print.result in
     let key = text_of c.args.key.now in
     let outs = c.args.outs.now in
+    let seen = c.args.seen.now in
     let start = probes_of store.log in
     let at = c.in-Some.at in
     let reads = c.loop-last.invariant.reads in
     let marked : IsMarked by keys key (Some at) = subst (IsMarked by keys key) c.in-Some.is c.loop-last.invariant.marked in
     let num : c.number-number.result ≡ number_at by keys at =
     c.number-number.ensures ∙ ap (λ i. number_at by i.keys at) reads.index in
-    let next = c.given_by.new.self in
-    let by_call = c.given_by.ensures.reads in
+    let next = c.given_if_seen.new.self in
+    let by_call = c.given_if_seen.ensures.reads in
     let last = c.before-last.result in
     let back : IsBehind by keys key at last =
     subst (λ i. IsBehind by i.keys key at last) (by_call.index ∙ reads.index) c.before-last.ensures in
@@ -232,10 +236,10 @@ loop-last-preserved g c =
           (subst (IsIndexOf store.index) (known_whole store.log c.requires told) (store.indexed.told told)).keys in
           let is = by_text keys.lengths c.seeks_print-by_print.ensures c.text.ensures in
           let same = frames_read store.log now.log reads.log in
-          let looked = subst (IsLooked keys fs by key outs start (probes_of now.log)) c.in-Some.is (c.loop-last.invariant.looked told) in
-          let lt = inside_at keys fs x by key outs start at marked.0 marked.1 (log_frames now.log) c.number-number.result same num is (probes_of now.log) looked in
-          next_at keys fs x by key outs start at marked.0 marked.1 (log_frames now.log) c.number-number.result same num is (probes_of now.log) looked (probes_of next.log) last
-          (unseen (log_frames now.log) c.in_ok-hit.field-0 c.in_default-2.is _ (c.in_ok-hit.ensures.given told lt) ∙ ap (λ (k : List ℕ). given artifact_in k outs (get_or (pairs_in (log_frames now.log)) c.number-number.result ([], []))) c.text-in-Some.ensures) (c.given_by.ensures.most told lt) (c.given_by.ensures.few told lt) back;
+          let looked = subst (IsLooked keys fs by key outs seen start (probes_of now.log)) c.in-Some.is (c.loop-last.invariant.looked told) in
+          let lt = inside_at keys fs x by key outs seen start at marked.0 marked.1 (log_frames now.log) c.number-number.result same num is (probes_of now.log) looked in
+          next_at keys fs x by key outs seen start at marked.0 marked.1 (log_frames now.log) c.number-number.result same num is (probes_of now.log) looked (probes_of next.log) last
+          (unseen (log_frames now.log) c.in_ok-hit.field-0 c.in_default-2.is _ (c.in_ok-hit.ensures.given told lt) ∙ ap (λ (k : List ℕ). given_if seen k outs (log_frames now.log) c.number-number.result) c.text-in-Some.ensures) (c.given_if_seen.ensures.most told lt) (c.given_if_seen.ensures.few told lt) back;
     }
 
 pub returns-clause-found : goal.returns-clause-found
@@ -245,13 +249,14 @@ returns-clause-found g c told =
     let by = c.seeks_print-by_print.result in
     let key = text_of c.args.key.now in
     let outs = c.args.outs.now in
+    let seen = c.args.seen.now in
     let start = probes_of store.log in
     let fs = log_frames store.log in
     let x : IsKeysOf keys (pairs_in fs) =
     (subst (IsIndexOf store.index) (known_whole store.log c.requires told) (store.indexed.told told)).keys in
     let is = by_text keys.lengths c.seeks_print-by_print.ensures c.text.ensures in
-    let over = subst (IsLooked keys fs by key outs start (probes_of c.loop-last.self.log)) c.in_default.is (c.loop-last.invariant.looked told) in
-    sym (found_none keys fs x by key outs start frame.cost_of (probes_of c.loop-last.self.log) is over.costs)
+    let over = subst (IsLooked keys fs by key outs seen start (probes_of c.loop-last.self.log)) c.in_default.is (c.loop-last.invariant.looked told) in
+    sym (found_none keys fs x by key outs seen start frame.cost_of (probes_of c.loop-last.self.log) is over.costs)
 
 pub returns-clause-few : goal.returns-clause-few
 returns-clause-few g c told =
@@ -260,13 +265,14 @@ returns-clause-few g c told =
     let by = c.seeks_print-by_print.result in
     let key = text_of c.args.key.now in
     let outs = c.args.outs.now in
+    let seen = c.args.seen.now in
     let start = probes_of store.log in
     let fs = log_frames store.log in
     let x : IsKeysOf keys (pairs_in fs) =
     (subst (IsIndexOf store.index) (known_whole store.log c.requires told) (store.indexed.told told)).keys in
     let is = by_text keys.lengths c.seeks_print-by_print.ensures c.text.ensures in
-    let over = subst (IsLooked keys fs by key outs start (probes_of c.loop-last.self.log)) c.in_default.is (c.loop-last.invariant.looked told) in
-    reads_end keys fs x by key outs start (probes_of c.loop-last.self.log) is over.reads
+    let over = subst (IsLooked keys fs by key outs seen start (probes_of c.loop-last.self.log)) c.in_default.is (c.loop-last.invariant.looked told) in
+    reads_end keys fs x by key outs seen start (probes_of c.loop-last.self.log) is over.reads
 
 pub returns-clause-most : goal.returns-clause-most
 returns-clause-most g c told =
@@ -275,13 +281,14 @@ returns-clause-most g c told =
     let by = c.seeks_print-by_print.result in
     let key = text_of c.args.key.now in
     let outs = c.args.outs.now in
+    let seen = c.args.seen.now in
     let start = probes_of store.log in
     let fs = log_frames store.log in
     let x : IsKeysOf keys (pairs_in fs) =
     (subst (IsIndexOf store.index) (known_whole store.log c.requires told) (store.indexed.told told)).keys in
     let is = by_text keys.lengths c.seeks_print-by_print.ensures c.text.ensures in
-    let over = subst (IsLooked keys fs by key outs start (probes_of c.loop-last.self.log)) c.in_default.is (c.loop-last.invariant.looked told) in
-    cost_end keys fs x by key outs start (probes_of c.loop-last.self.log) is over.costs
+    let over = subst (IsLooked keys fs by key outs seen start (probes_of c.loop-last.self.log)) c.in_default.is (c.loop-last.invariant.looked told) in
+    cost_end keys fs x by key outs seen start (probes_of c.loop-last.self.log) is over.costs
 
 pub returns-clause-cost : goal.returns-clause-cost
 returns-clause-cost g c told =
@@ -290,10 +297,11 @@ returns-clause-cost g c told =
     let by = c.seeks_print-by_print.result in
     let key = text_of c.args.key.now in
     let outs = c.args.outs.now in
+    let seen = c.args.seen.now in
     let start = probes_of store.log in
     let fs = log_frames store.log in
     let x : IsKeysOf keys (pairs_in fs) =
     (subst (IsIndexOf store.index) (known_whole store.log c.requires told) (store.indexed.told told)).keys in
     let is = by_text keys.lengths c.seeks_print-by_print.ensures c.text.ensures in
-    let over = subst (IsLooked keys fs by key outs start (probes_of c.loop-last.self.log)) c.in_default.is (c.loop-last.invariant.looked told) in
-    omega (arith, cost_end keys fs x by key outs start (probes_of c.loop-last.self.log) is over.costs)
+    let over = subst (IsLooked keys fs by key outs seen start (probes_of c.loop-last.self.log)) c.in_default.is (c.loop-last.invariant.looked told) in
+    omega (arith, cost_end keys fs x by key outs seen start (probes_of c.loop-last.self.log) is over.costs)

@@ -12,7 +12,7 @@ invariant-loop-last g l = record {
   faults : g.S.StoreDevice.store_faults (device_of l.self) ≡ g.S.StoreDevice.store_faults (device_of l.fn.self);
   marked : IsMarked l.by_print l.fn.self.index.keys (text_of l.key) l.last;
   looked : g.S.StoreDevice.tells → IsLooked l.fn.self.index.keys (frames_of l.fn.self) l.by_print
-      (text_of l.key) l.outs (probes_of l.fn.self.log) (probes_of l.self.log) l.last;
+      (text_of l.key) l.outs l.seen (probes_of l.fn.self.log) (probes_of l.self.log) l.last;
 }
 
 abbrev pub decreases-loop-last : goal.decreases-loop-last

@@ -1,0 +1,2 @@
+mod CostFacts
+mod PageFacts

@@ -1,0 +1,4 @@
+pub mod KeyLaws
+pub mod Places
+pub mod IndexLaws
+pub mod Rising

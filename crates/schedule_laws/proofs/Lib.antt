@@ -1,0 +1,5 @@
+pub mod Listed
+pub mod Finished
+pub mod Failures
+pub mod Settling
+pub mod Reasons
