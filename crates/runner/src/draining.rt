@@ -2,20 +2,18 @@
 ghost use Rattle.std.specs.Prelude.{◌≡◌, ◌≤◌, ℕ, List, true, false};
 ghost use Rattle.cache_api.specs.Pairs.{Pair};
 ghost use Rattle.spawn_dev.specs.Spawn.{IsIdle};
-ghost use Rattle.run_plan.specs.Halts.{HaltLaw};
 ghost use Rattle.run_plan.specs.Openings.{Opening};
 ghost use Rattle.run_plan.specs.Stories.{Now};
 ghost use Rattle.run_plan.specs.StoryLaws.{Stands};
 ghost use Rattle.runner.specs.Halting.{HaltsNow, WaitsFor, WorldGoes};
 ghost use Rattle.runner.specs.Running.{AreOurs};
 
-use run_plan::Plan;
+use run_plan::{Plan, halt_law};
 use spawn_dev::Spawner;
 use std::alloc::Global;
 
 /// Waits for all commands that run.
 pub fn drain<W: Spawner>(alloc: Global, plan: &Plan, world: &mut W)
-    requires halts { HaltLaw }
     requires ours { AreOurs plan.now (W.runs world.old) }
     ensures idle { IsIdle (W.runs world.new) }
     ensures world { WorldGoes W.tells plan.now (W.runs world.old) (W.runs world.new)
@@ -28,6 +26,7 @@ pub fn drain<W: Spawner>(alloc: Global, plan: &Plan, world: &mut W)
     ensures tree { (W.state world.new).faults ≡ (W.state world.old).faults }
     ensures later { (W.runs world.old).faults ≤ (W.runs world.new).faults }
 {
+    halt_law();
     'waits: while !world.is_idle() {
         let _ = world.wait(alloc);
     }

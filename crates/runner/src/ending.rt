@@ -11,7 +11,6 @@ ghost use Rattle.run_core.specs.Core.{rules, states};
 ghost use Rattle.run_core.specs.Machine.{next, IsCalm};
 ghost use Rattle.run_laws.specs.Ancestors.{part_at};
 ghost use Rattle.run_laws.specs.Plans.{log_path};
-ghost use Rattle.run_plan.specs.Halts.{HaltLaw};
 ghost use Rattle.run_plan.specs.Openings.{Opening, rules_of};
 ghost use Rattle.run_plan.specs.Pages.{digits_of};
 ghost use Rattle.run_plan.specs.Plans.{IsValidPlan, bypasses};
@@ -30,7 +29,7 @@ use crate::board::Board;
 use cache_api::{Cache, Key};
 use page::Mark;
 use run_core::Next;
-use run_plan::{Plan, Report, digits, story_law};
+use run_plan::{Plan, Report, digits, halt_law, story_law};
 use spawn_dev::{Ended, Spawner};
 use std::alloc::Global;
 use task_devices::{RunErr, keep, keep_log, wait};
@@ -120,7 +119,6 @@ pub fn finish<W: Spawner, C: Cache>(
     world: &mut W,
     cache: &mut C,
 ) -> Result<(), RunErr>
-    requires halts { HaltLaw }
     requires plan { IsValidPlan plan.now }
     requires board { IsBoard plan.now board.old }
     requires steps { InStep plan.now (states board.old.core) (W.runs world.old) }
@@ -155,6 +153,7 @@ pub fn finish<W: Spawner, C: Cache>(
         result }
 {
     story_law();
+    halt_law();
     let ended = wait(alloc, world)?;
     let sound = board.sound(plan, ended.place);
     let known = board.fingerprints.at(ended.place as usize);

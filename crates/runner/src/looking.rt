@@ -11,7 +11,6 @@ ghost use Rattle.run_laws.specs.Keys.{key_of};
 ghost use Rattle.run_laws.specs.Plans.{log_path};
 ghost use Rattle.run_laws.specs.Worlds.{logged};
 ghost use Rattle.run_plan.specs.Answers.{SameElsewhere};
-ghost use Rattle.run_plan.specs.Halts.{HaltLaw};
 ghost use Rattle.run_plan.specs.Pages.{digits_of};
 ghost use Rattle.run_plan.specs.Plans.{IsValidPlan, bypasses};
 ghost use Rattle.task_devices.specs.Devices.{IsFree, OnlyAt};
@@ -26,7 +25,7 @@ use crate::board::Board;
 use cache_api::{Cache, Hit, Key};
 use rel_path::{Bytes, Text};
 use run_core::Next;
-use run_plan::{Plan, digits, story_law};
+use run_plan::{Plan, digits, halt_law, story_law};
 use spawn_dev::Spawner;
 use std::alloc::Global;
 use task_devices::{RunErr, keep_log, look_up, put_back};
@@ -82,7 +81,6 @@ fn ask<W: Spawner, C: Cache>(
     world: &mut W,
     cache: &mut C,
 ) -> Result<(), RunErr>
-    requires halts { HaltLaw }
     requires plan { IsValidPlan plan.now }
     requires place { place < length plan.now.listing.parts }
     requires board { IsBoard plan.now board.old }
@@ -116,6 +114,7 @@ fn ask<W: Spawner, C: Cache>(
         result }
 {
     story_law();
+    halt_law();
     let text = plan.key(alloc, place)?;
     let key = Key::new(text.as_slice());
     match look_up(alloc, key, &plan.part(place).outs, cache)? {
@@ -140,7 +139,6 @@ pub fn look<W: Spawner, C: Cache>(
     world: &mut W,
     cache: &mut C,
 ) -> Result<(), RunErr>
-    requires halts { HaltLaw }
     requires plan { IsValidPlan plan.now }
     requires place { place < length plan.now.listing.parts }
     requires board { IsBoard plan.now board.old }

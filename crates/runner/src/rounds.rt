@@ -1,7 +1,6 @@
 // Rounds of a run: turns, and what is shown after them.
 ghost use Rattle.std.specs.Prelude.{◌≡◌, IsTrue, IfOk, IfErr, OnOk};
 ghost use Rattle.run_core.specs.Core.{states};
-ghost use Rattle.run_plan.specs.Halts.{HaltLaw};
 ghost use Rattle.run_plan.specs.Openings.{Opening};
 ghost use Rattle.run_plan.specs.Plans.{IsValidPlan};
 ghost use Rattle.run_plan.specs.StoryLaws.{Stands};
@@ -17,7 +16,7 @@ use crate::board::Board;
 use crate::showing::show_settled;
 use crate::turns::turn;
 use cache_api::Cache;
-use run_plan::{Plan, story_law};
+use run_plan::{Plan, halt_law, story_law};
 use spawn_dev::Spawner;
 use std::alloc::Global;
 use task_devices::RunErr;
@@ -32,7 +31,6 @@ fn round<W: Spawner, C: Cache, K: Sink>(
     cache: &mut C,
     out: &mut K,
 ) -> Result<bool, RunErr>
-    requires halts { HaltLaw }
     requires plan { IsValidPlan plan.now }
     requires current { IsUpToDate plan.now board.old }
     requires steps { InStep plan.now (states board.old.core) (W.runs world.old) }
@@ -70,6 +68,7 @@ fn round<W: Spawner, C: Cache, K: Sink>(
         (K.faults out.new)) result }
 {
     story_law();
+    halt_law();
     let more = turn(alloc, plan, board, world, cache)?;
     show_settled(alloc, plan, board, out)?;
     Ok(more)
@@ -84,7 +83,6 @@ pub fn rounds<W: Spawner, C: Cache, K: Sink>(
     cache: &mut C,
     out: &mut K,
 ) -> Result<(), RunErr>
-    requires halts { HaltLaw }
     requires plan { IsValidPlan plan.now }
     requires current { IsUpToDate plan.now board.old }
     requires steps { InStep plan.now (states board.old.core) (W.runs world.old) }
@@ -119,6 +117,7 @@ pub fn rounds<W: Spawner, C: Cache, K: Sink>(
         (faults_of (W.state world.new).faults (C.state cache.new).faults (W.runs world.new).faults
         (K.faults out.new)) result }
 {
+    halt_law();
     let mut more = true;
     'turns: while more {
         more = round(alloc, plan, board, world, cache, out)?;

@@ -4,7 +4,6 @@ ghost use Rattle.cache_api.specs.Cache.{Keeps};
 ghost use Rattle.run_laws.specs.Runs.{IsReady};
 ghost use Rattle.run_plan.specs.Answers.{Ran, Stopped, SameElsewhere};
 ghost use Rattle.run_plan.specs.Costs.{look_up_cost};
-ghost use Rattle.run_plan.specs.Halts.{HaltLaw};
 ghost use Rattle.run_plan.specs.Openings.{setting_of, HoldsInputs};
 ghost use Rattle.run_plan.specs.Plans.{IsValidPlan};
 ghost use Rattle.spawn_dev.specs.Spawn.{IsIdle};
@@ -17,7 +16,7 @@ use crate::draining::drain;
 use crate::rounds::rounds;
 use crate::showing::conclude;
 use cache_api::Cache;
-use run_plan::{Plan, story_law};
+use run_plan::{Plan, halt_law, story_law};
 use spawn_dev::Spawner;
 use std::alloc::Global;
 use task_devices::RunErr;
@@ -31,7 +30,6 @@ fn run_through<W: Spawner, C: Cache, K: Sink>(
     cache: &mut C,
     out: &mut K,
 ) -> Result<u8, RunErr>
-    requires halts { HaltLaw }
     requires plan { IsValidPlan plan.now }
     requires idle { IsIdle (W.runs world.old) }
     requires whole { IsTrue (C.state cache.old).whole }
@@ -67,6 +65,7 @@ fn run_through<W: Spawner, C: Cache, K: Sink>(
         (K.faults out.new)) result }
 {
     story_law();
+    halt_law();
     let mut board = Board::new(alloc, plan)?;
     rounds(alloc, plan, &mut board, world, cache, out)?;
     conclude(alloc, plan, &mut board, out)?;
@@ -90,7 +89,6 @@ pub fn run<W: Spawner, C: Cache, K: Sink>(
     cache: &mut C,
     out: &mut K,
 ) -> Result<u8, RunErr>
-    requires halts { HaltLaw }
     requires plan { IsValidPlan plan.now }
     requires idle { IsIdle (W.runs world.old) }
     requires whole { IsTrue (C.state cache.old).whole }
@@ -141,6 +139,7 @@ pub fn run<W: Spawner, C: Cache, K: Sink>(
         → AllEnd (W.runs world.old).steps (W.runs world.new).steps
         → (W.runs world.new).faults ≡ (W.runs world.old).faults) }
 {
+    halt_law();
     match run_through(alloc, plan, world, cache, out) {
         Ok(status) => Ok(status),
         Err(fault) => {

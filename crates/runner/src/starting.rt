@@ -4,7 +4,6 @@ ghost use Rattle.cache_api.specs.Pairs.{Pair};
 ghost use Rattle.run_core.specs.Core.{rules, states};
 ghost use Rattle.run_core.specs.Machine.{next, put, IsCalm};
 ghost use Rattle.run_plan.specs.Answers.{IsSafe};
-ghost use Rattle.run_plan.specs.Halts.{HaltLaw};
 ghost use Rattle.run_plan.specs.Openings.{Opening, rules_of};
 ghost use Rattle.run_plan.specs.Plans.{IsValidPlan};
 ghost use Rattle.run_plan.specs.StoryLaws.{Stands};
@@ -17,7 +16,7 @@ ghost use Rattle.runner.specs.Running.{InStep};
 use crate::board::Board;
 use run_core::{Next, State};
 use run_laws::closure_is_valid;
-use run_plan::{Plan, story_law};
+use run_plan::{Plan, halt_law, story_law};
 use spawn_dev::Spawner;
 use std::alloc::Global;
 use task_devices::{RunErr, clear_owned, start};
@@ -30,7 +29,6 @@ pub fn begin<W: Spawner>(
     board: &mut Board,
     world: &mut W,
 ) -> Result<(), RunErr>
-    requires halts { HaltLaw }
     requires plan { IsValidPlan plan.now }
     requires place { place < length plan.now.listing.parts }
     requires board { IsBoard plan.now board.old }
@@ -56,6 +54,7 @@ pub fn begin<W: Spawner>(
         (faults_of (W.state world.new).faults 0 (W.runs world.new).faults 0) result }
 {
     story_law();
+    halt_law();
     closure_is_valid();
     let command = plan.command(alloc, place)?;
     clear_owned(alloc, plan, place, world)?;

@@ -1,7 +1,6 @@
 // The turns of a run.
 ghost use Rattle.std.specs.Prelude.{◌≡◌, IsTrue, IfOk, OnOk, OnErr};
 ghost use Rattle.run_core.specs.Core.{states};
-ghost use Rattle.run_plan.specs.Halts.{HaltLaw};
 ghost use Rattle.run_plan.specs.Openings.{Opening};
 ghost use Rattle.run_plan.specs.Plans.{IsValidPlan};
 ghost use Rattle.run_plan.specs.StoryLaws.{Stands};
@@ -19,7 +18,7 @@ use crate::looking::look;
 use crate::starting::begin;
 use cache_api::Cache;
 use run_core::Next;
-use run_plan::Plan;
+use run_plan::{Plan, halt_law};
 use spawn_dev::Spawner;
 use std::alloc::Global;
 use task_devices::RunErr;
@@ -32,7 +31,6 @@ pub fn turn<W: Spawner, C: Cache>(
     world: &mut W,
     cache: &mut C,
 ) -> Result<bool, RunErr>
-    requires halts { HaltLaw }
     requires plan { IsValidPlan plan.now }
     requires board { IsBoard plan.now board.old }
     requires steps { InStep plan.now (states board.old.core) (W.runs world.old) }
@@ -64,6 +62,7 @@ pub fn turn<W: Spawner, C: Cache>(
         (faults_of (W.state world.new).faults (C.state cache.new).faults (W.runs world.new).faults 0)
         result }
 {
+    halt_law();
     match board.core.next() {
         Next::Lookup(place) => {
             look(alloc, plan, place, board, world, cache)?;

@@ -40,7 +40,7 @@ waits-preserved-in-waits g c =
             (elsewhere-over plan mid new w.0 files later inv.world.ours w.1);
       };
       stays = λ told o now pairs room stands halts.
-          halts-waited plan c.requires.halts o now stands mid new files later pairs room
+          halts-waited plan c.halt_law.ensures o now stands mid new files later pairs room
           inv.world.ours wait.others (inv.stays told o now pairs room stands halts) c.wait.result
           wait.over (wait.ends told) wait.failed wait.unsaid;
       waited = λ told. waited-more first mid new files later (inv.waited told) c.wait.result wait.over
@@ -72,7 +72,7 @@ waits-preserved g c =
             (elsewhere-over plan mid new w.0 files later inv.world.ours w.1);
       };
       stays = λ told o now pairs room stands halts.
-          halts-waited plan c.requires.halts o now stands mid new files later pairs room
+          halts-waited plan c.halt_law.ensures o now stands mid new files later pairs room
           inv.world.ours wait.others (inv.stays told o now pairs room stands halts) c.wait.result
           wait.over (wait.ends told) wait.failed wait.unsaid;
       waited = λ told. waited-more first mid new files later (inv.waited told) c.wait.result wait.over

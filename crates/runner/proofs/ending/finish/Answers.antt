@@ -70,7 +70,7 @@ returns-in_err-ended-clause-halts g c told store =
     let running = ended-runs plan c.requires.plan st old place over_it.command c.requires.steps
     over_it.ran in
     let p = err_from_is_err_and c.from_residual.result c.from_residual.ensures.1 in
-    rw p.1 (halts-early plan c.requires.halts c.args.board.now g.W.Spawner.effect old tree
+    rw p.1 (halts-early plan c.halt_law.ensures c.args.board.now g.W.Spawner.effect old tree
     cache.pairs cache.room c.requires.steps new files cache.pairs cache.room
     (lived old new place over_it.at) wait.unsaid wait.others
     (undone-over plan st old new place tree.files files c.requires.steps.ours (ap is_done running)
@@ -85,7 +85,7 @@ returns-in_err-ended-clause-left g c told store o stands =
     (λ image left. g.met.C.Cache.at_rest c.args.cache.now image store c.requires.whole left)
     (safe-steps plan o cache.room (g.W.Spawner.runs c.args.world.now).steps
     (g.W.Spawner.runs c.wait.new.world).steps cache.pairs c.in_err-ended.ensures.unsaid
-    (c.requires.halts.safe plan o _ stands))
+    (c.halt_law.ensures.safe plan o _ stands))
 
 -- ---- an end came
 
@@ -187,7 +187,7 @@ returns-in_err-report-clause-halts g c told store =
     let p = err_from_is_err_and c.from_residual-in_err-report.result
     c.from_residual-in_err-report.ensures.1 in
     rw p.1 (subst (λ w. HaltsFrom plan now w files2 new.pairs new.room) (sym settle.runs)
-    (halts-ended plan c.requires.halts c.args.board.now g.W.Spawner.effect old tree cache.pairs
+    (halts-ended plan c.halt_law.ensures c.args.board.now g.W.Spawner.effect old tree cache.pairs
     cache.room c.requires.steps mid files2 new.pairs new.room ended sound c.requires.calm ends_now
     over_it.at ends.steps wait.others
     (undone-then plan st tree.files files1 files2
@@ -225,7 +225,7 @@ returns-in_err-report-clause-left g c told store o stands =
     } in
     safe-ended g.C.Cache.state g.C.Cache.moment g.C.Cache.left g.C.Cache.says plan o steps
     c.args.cache.now c.settle.new.cache ended sound files1 (settle.left told store)
-    (λ pairs may. safe-end plan now ended sound files1 ends.files c.requires.halts o new.room steps
+    (λ pairs may. safe-end plan now ended sound files1 ends.files c.halt_law.ensures o new.room steps
     pairs stands c.requires.calm ends_now settle.cache.keeps.room
     (ap (λ w. w.steps) settle.runs ∙ ends.steps) may)
 
@@ -366,7 +366,7 @@ returns-clause-left g c told store o stands =
     } in
     safe-ended g.C.Cache.state g.C.Cache.moment g.C.Cache.left g.C.Cache.says plan o steps
     c.args.cache.now c.settle.new.cache ended sound files1 (settle.left told store)
-    (λ pairs may. safe-end plan now ended sound files1 ends.files c.requires.halts o new.room steps
+    (λ pairs may. safe-end plan now ended sound files1 ends.files c.halt_law.ensures o new.room steps
     pairs stands c.requires.calm ends_now settle.cache.keeps.room
     (ap (λ w. w.steps) settle.runs ∙ ends.steps) may)
 

@@ -34,7 +34,7 @@ returns-in_err-text-clause-halts g c told store =
     let tree = g.W.Tree.state c.args.world.now in
     let cache = g.C.Cache.state c.args.cache.now in
     let p = err_from_is_err_and c.from_residual.result c.from_residual.ensures.1 in
-    rw p.1 (halts-here c.args.plan.now c.requires.halts c.args.board.now g.W.Spawner.effect
+    rw p.1 (halts-here c.args.plan.now c.halt_law.ensures c.args.board.now g.W.Spawner.effect
     (g.W.Spawner.runs c.args.world.now) tree cache.pairs cache.room c.requires.steps
     (g.W.Spawner.runs c.args.world.now) tree.files cache.pairs cache.room refl
     (undone-same c.args.plan.now (states c.args.board.now.core) tree.files tree.files refl) refl
@@ -48,7 +48,7 @@ returns-in_err-look_up-clause-halts g c told store =
     let reads = c.in_err-look_up.ensures.reads in
     let p = err_from_is_err_and c.from_residual-in_err-look_up.result
     c.from_residual-in_err-look_up.ensures.1 in
-    rw p.1 (halts-here c.args.plan.now c.requires.halts c.args.board.now g.W.Spawner.effect
+    rw p.1 (halts-here c.args.plan.now c.halt_law.ensures c.args.board.now g.W.Spawner.effect
     (g.W.Spawner.runs c.args.world.now) tree cache.pairs cache.room c.requires.steps
     (g.W.Spawner.runs c.args.world.now) tree.files new.pairs new.room refl
     (undone-same c.args.plan.now (states c.args.board.now.core) tree.files tree.files refl)
@@ -169,7 +169,7 @@ returns-in_err-digits-in-Some-clause-halts g c told store =
     let replay = c.in_err-digits-in-Some.ensures in
     let p = err_from_is_err_and c.from_residual-in_err-digits-in-Some.result
     c.from_residual-in_err-digits-in-Some.ensures.1 in
-    rw p.1 (halts-here plan c.requires.halts c.args.board.now g.W.Spawner.effect
+    rw p.1 (halts-here plan c.halt_law.ensures c.args.board.now g.W.Spawner.effect
     (g.W.Spawner.runs c.args.world.now) tree cache.pairs cache.room c.requires.steps
     (g.W.Spawner.runs c.replay.new.world) files new.pairs new.room replay.runs
     (undone-only plan st t tree.files files c.requires.script

@@ -59,7 +59,7 @@ returns-in_err-show_settled-clause-stops g c told store =
     rw (p.1, p.2) (λ o before stands page. record {
       now = mid;
       stands = turn.stands told store o stands;
-      halts = halts-here plan c.requires.halts board g.W.Spawner.effect world tree cache.pairs
+      halts = halts-here plan c.halt_law.ensures board g.W.Spawner.effect world tree cache.pairs
           cache.room turn.steps world tree.files cache.pairs cache.room refl
           (undone-same plan (states board.core) tree.files tree.files refl) refl (omega arith) o
           (turn.stands told store o stands);

@@ -39,7 +39,7 @@ turns-init g c = record {
       safe-none g.C.Cache.state g.C.Cache.moment g.C.Cache.left g.C.Cache.says c.args.plan.now o
       (g.W.Spawner.runs c.args.world.now).steps c.args.cache.now
       (λ image left. g.met.C.Cache.at_rest c.args.cache.now image store c.requires.whole left)
-      (c.requires.halts.safe c.args.plan.now o _ stands);
+      (c.halt_law.ensures.safe c.args.plan.now o _ stands);
   spends = λ told store same. omega arith;
   faults = refl;
 }
@@ -65,7 +65,7 @@ turns-preserved g c =
       page = λ told store heard o before stands page. round.page told store heard o before
           (inv.stands told store o stands) (inv.page told store heard o before stands page);
       left = λ told store o stands.
-          safe-then g.C.Cache.state g.C.Cache.moment g.C.Cache.left g.C.Cache.says c.requires.halts
+          safe-then g.C.Cache.state g.C.Cache.moment g.C.Cache.left g.C.Cache.says c.halt_law.ensures
           plan o mid.steps new.steps c.args.cache.now c.turns.cache c.round.new.cache inv.cache.keeps
           round.cache.keeps (round.world.further told) (inv.left told store o stands)
           (round.left told store o (inv.stands told store o stands));
@@ -107,7 +107,7 @@ pub returns-in_err-more-clause-left : goal.returns-in_err-more-clause-left
 returns-in_err-more-clause-left g c told store o stands =
     let inv = c.turns.invariant in
     let round = c.in_err-more.ensures in
-    safe-then g.C.Cache.state g.C.Cache.moment g.C.Cache.left g.C.Cache.says c.requires.halts
+    safe-then g.C.Cache.state g.C.Cache.moment g.C.Cache.left g.C.Cache.says c.halt_law.ensures
     c.args.plan.now o (g.W.Spawner.runs c.turns.world).steps
     (g.W.Spawner.runs c.round.new.world).steps c.args.cache.now c.turns.cache c.round.new.cache
     inv.cache.keeps round.cache.keeps (round.world.further told) (inv.left told store o stands)

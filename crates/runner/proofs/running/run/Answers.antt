@@ -18,7 +18,7 @@ pub returns-in-Err-clause-left : goal.returns-in-Err-clause-left
 returns-in-Err-clause-left g c told store ready =
     let o = opening_of g.W.Spawner.effect (g.W.Spawner.runs c.args.world.now)
     (g.W.Tree.state c.args.world.now) (g.C.Cache.state c.args.cache.now) in
-    safe-more g.C.Cache.state g.C.Cache.moment g.C.Cache.left g.C.Cache.says c.requires.halts
+    safe-more g.C.Cache.state g.C.Cache.moment g.C.Cache.left g.C.Cache.says c.halt_law.ensures
     c.args.plan.now o (g.W.Spawner.runs c.run_through.new.world).steps
     (g.W.Spawner.runs c.drain.new.world).steps c.args.cache.now c.run_through.new.cache
     (c.drain.ensures.world.further told) (c.in-Err.ensures.left told store ready)
@@ -42,7 +42,7 @@ returns-in-Err-clause-stopped g c told store ready =
     record {
       states = stops.now.states;
       notes = notes_in stops.now.reports;
-      stops = c.requires.halts.stopped plan o stops.now (g.W.Tree.state c.drain.new.world).files
+      stops = c.halt_law.ensures.stopped plan o stops.now (g.W.Tree.state c.drain.new.world).files
           cache.pairs cache.room (g.W.Spawner.runs c.drain.new.world).steps stops.stands
           halts.halts.halts;
       page_is = stops.page_is;
@@ -57,7 +57,7 @@ returns-in-Err-clause-waits g c told store ready other all =
     let mid = g.W.Spawner.runs c.run_through.new.world in
     let stops = c.in-Err.ensures.stops told store ready in
     let waits = c.drain.ensures.waits told in
-    waits.calm (ends-late c.requires.halts plan o stops.now mid
+    waits.calm (ends-late c.halt_law.ensures plan o stops.now mid
     (g.W.Tree.state c.run_through.new.world).files cache.pairs cache.room
     (g.W.Spawner.runs c.drain.new.world).steps waits.late stops.stands stops.halts waits.steps_are
     all)

@@ -52,7 +52,7 @@ returns-in_err-board-clause-stops g c told store ready =
     rw (p.1, p.2) (record {
       now = now;
       stands = stands-zero plan law valid effect world tree cache ready;
-      halts = halts-zero plan law valid effect world tree cache ready c.requires.halts
+      halts = halts-zero plan law valid effect world tree cache ready c.halt_law.ensures
           c.requires.idle;
       page_is = λ heard. torn-none plan o (notes_in now.reports) _ (g.K.Sink.written c.args.out.now);
     })
@@ -67,7 +67,7 @@ returns-in_err-board-clause-left g c told store ready =
     safe-none g.C.Cache.state g.C.Cache.moment g.C.Cache.left g.C.Cache.says plan o world.steps
     c.args.cache.now
     (λ image left. g.met.C.Cache.at_rest c.args.cache.now image store c.requires.whole left)
-    (c.requires.halts.safe plan o _ (stands-zero plan c.story_law.ensures c.requires.plan
+    (c.halt_law.ensures.safe plan o _ (stands-zero plan c.story_law.ensures c.requires.plan
     g.W.Spawner.effect world tree cache ready))
 
 -- ---- rounds
@@ -146,7 +146,7 @@ returns-in_err-conclude-clause-stops g c told store ready =
     rw (p.1, p.2) (record {
       now = last;
       stands = stands;
-      halts = halts-here plan c.requires.halts c.rounds.new.board effect world tree cache.pairs
+      halts = halts-here plan c.halt_law.ensures c.rounds.new.board effect world tree cache.pairs
           cache.room rounds.steps world tree.files cache.pairs cache.room refl
           (undone-same plan last.states tree.files tree.files refl) refl (omega arith) o stands;
       page_is = λ heard. c.in_err-conclude.ensures.torn heard last o before stands

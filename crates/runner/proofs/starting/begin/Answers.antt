@@ -28,14 +28,14 @@ returns-in_err-command-clause-halts g c told =
     let plan = c.args.plan.now in
     let tree = g.W.Tree.state c.args.world.now in
     let p = err_from_is_err_and c.from_residual.result c.from_residual.ensures.1 in
-    rw p.1 (λ pairs room. halts-here plan c.requires.halts c.args.board.now g.W.Spawner.effect
+    rw p.1 (λ pairs room. halts-here plan c.halt_law.ensures c.args.board.now g.W.Spawner.effect
     (g.W.Spawner.runs c.args.world.now) tree pairs room c.requires.steps
     (g.W.Spawner.runs c.args.world.now) tree.files pairs room refl
     (undone-same plan (states c.args.board.now.core) tree.files tree.files refl) refl (omega arith))
 
 pub returns-in_err-command-clause-safe : goal.returns-in_err-command-clause-safe
 returns-in_err-command-clause-safe g c told o pairs room stands =
-    c.requires.halts.safe c.args.plan.now o _ stands
+    c.halt_law.ensures.safe c.args.plan.now o _ stands
 
 pub clear_owned-requires-clause-free : goal.clear_owned-requires-clause-free
 clear_owned-requires-clause-free g c =
@@ -76,7 +76,7 @@ returns-in_err-clear_owned-clause-halts g c told =
     let files = (g.W.Tree.state c.clear_owned.new.world).files in
     let p = err_from_is_err_and c.from_residual-in_err-clear_owned.result
     c.from_residual-in_err-clear_owned.ensures.1 in
-    rw p.1 (λ pairs room. halts-here plan c.requires.halts c.args.board.now g.W.Spawner.effect
+    rw p.1 (λ pairs room. halts-here plan c.halt_law.ensures c.args.board.now g.W.Spawner.effect
     (g.W.Spawner.runs c.args.world.now) tree pairs room c.requires.steps
     (g.W.Spawner.runs c.clear_owned.new.world) files pairs room clear.runs
     (undone-only plan st t tree.files files (c.requires.steps.scripts t (ap is_begun missed))
@@ -87,7 +87,7 @@ returns-in_err-clear_owned-clause-safe g c told o pairs room stands =
     safe-steps c.args.plan.now o room (g.W.Spawner.runs c.args.world.now).steps
     (g.W.Spawner.runs c.clear_owned.new.world).steps pairs
     (ap (λ w. w.steps) c.in_err-clear_owned.ensures.runs)
-    (c.requires.halts.safe c.args.plan.now o _ stands)
+    (c.halt_law.ensures.safe c.args.plan.now o _ stands)
 
 pub start-requires-clause-fresh : goal.start-requires-clause-fresh
 start-requires-clause-fresh g c =
@@ -187,7 +187,7 @@ returns-in_err-start-clause-halts g c told =
     (ap is_done missed) (clear.others told)) (undone-same plan st mid files start.files) in
     let p = err_from_is_err_and c.from_residual-in_err-start.result
     c.from_residual-in_err-start.ensures.1 in
-    rw p.1 (λ pairs room. halts-early plan c.requires.halts c.args.board.now g.W.Spawner.effect
+    rw p.1 (λ pairs room. halts-early plan c.halt_law.ensures c.args.board.now g.W.Spawner.effect
     (g.W.Spawner.runs c.args.world.now) tree pairs room c.requires.steps
     (g.W.Spawner.runs c.start.new.world) files pairs room
     (λ u lives. ap (λ f. is_some (f u)) (sym (start.refused.at ∙ ap (λ w. w.at) clear.runs)) ∙ lives)
@@ -201,7 +201,7 @@ returns-in_err-start-clause-safe g c told o pairs room stands =
     safe-steps c.args.plan.now o room (g.W.Spawner.runs c.args.world.now).steps
     (g.W.Spawner.runs c.start.new.world).steps pairs
     (c.in_err-start.ensures.refused.steps ∙ ap (λ w. w.steps) c.in_ok-clear_owned.ensures.runs)
-    (c.requires.halts.safe c.args.plan.now o _ stands)
+    (c.halt_law.ensures.safe c.args.plan.now o _ stands)
 
 pub returns-clause-steps : goal.returns-clause-steps
 returns-clause-steps g c =
@@ -286,4 +286,4 @@ returns-clause-stands g c told pairs room o stands =
 
 pub returns-clause-safe : goal.returns-clause-safe
 returns-clause-safe g c told o pairs room stands =
-    c.requires.halts.safe c.args.plan.now o _ (returns-clause-stands g c told pairs room o stands)
+    c.halt_law.ensures.safe c.args.plan.now o _ (returns-clause-stands g c told pairs room o stands)

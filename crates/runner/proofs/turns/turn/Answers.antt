@@ -45,9 +45,9 @@ returns-in_err-look-in-Lookup-clause-left g c told store o stands =
     let steps = (g.W.Spawner.runs c.look.new.world).steps in
     safe-same g.C.Cache.state g.C.Cache.moment g.C.Cache.left g.C.Cache.says plan o steps
     c.args.cache.now c.look.new.cache (look.reads.left store)
-    (safe-less c.requires.halts plan o cache.room (g.C.Cache.state c.look.new.cache).room
+    (safe-less c.halt_law.ensures plan o cache.room (g.C.Cache.state c.look.new.cache).room
     (g.W.Spawner.runs c.args.world.now).steps steps cache.pairs look.reads.keeps.room
-    (ap (λ w. w.steps) look.runs) (c.requires.halts.safe plan o _ stands))
+    (ap (λ w. w.steps) look.runs) (c.halt_law.ensures.safe plan o _ stands))
 
 pub returns-in_err-look-in-Lookup-clause-halts : goal.returns-in_err-look-in-Lookup-clause-halts
 returns-in_err-look-in-Lookup-clause-halts g c told store =
@@ -75,9 +75,9 @@ returns-in_ok-look-in-Lookup-clause-left g c told store o stands =
     let steps = (g.W.Spawner.runs c.look.new.world).steps in
     safe-same g.C.Cache.state g.C.Cache.moment g.C.Cache.left g.C.Cache.says plan o steps
     c.args.cache.now c.look.new.cache (look.reads.left store)
-    (safe-less c.requires.halts plan o cache.room (g.C.Cache.state c.look.new.cache).room
+    (safe-less c.halt_law.ensures plan o cache.room (g.C.Cache.state c.look.new.cache).room
     (g.W.Spawner.runs c.args.world.now).steps steps cache.pairs look.reads.keeps.room
-    (ap (λ w. w.steps) look.runs) (c.requires.halts.safe plan o _ stands))
+    (ap (λ w. w.steps) look.runs) (c.halt_law.ensures.safe plan o _ stands))
 
 pub returns-in_err-begin-in-Start-clause-cache : goal.returns-in_err-begin-in-Start-clause-cache
 returns-in_err-begin-in-Start-clause-cache g c =
@@ -157,4 +157,4 @@ returns-in-Finished-clause-left g c told store o stands =
     safe-none g.C.Cache.state g.C.Cache.moment g.C.Cache.left g.C.Cache.says c.args.plan.now o
     (g.W.Spawner.runs c.args.world.now).steps c.args.cache.now
     (λ image left. g.met.C.Cache.at_rest c.args.cache.now image store c.requires.whole left)
-    (c.requires.halts.safe c.args.plan.now o _ stands)
+    (c.halt_law.ensures.safe c.args.plan.now o _ stands)
