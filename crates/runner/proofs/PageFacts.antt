@@ -4,7 +4,6 @@ use Rattle.std.specs.Prelude.{◌&&◌, nat_lt, Err}
 use Rattle.std.proofs.lemmas.Bool.{ne_eqb, lt-ltb, le-ltb, ltb-false, cases_Bool}
 use Rattle.std.proofs.lemmas.List.{append_cancel_left}
 use Rattle.page.specs.declared.blocks.Note.{Note}
-use Rattle.page.specs.declared.blocks.Note.TheVariants.{Stored}
 use Rattle.spawn_dev.specs.Spawn.{put_at}
 use Rattle.run_core.specs.declared.states.State.TheVariants.{Waiting}
 use Rattle.run_core.specs.Core.{states}

@@ -1,8 +1,7 @@
-use Rattle.std.proofs.Common.{◌≡◌, ◌∙◌, ◌++◌, ◌∷◌, [], ap, sym, refl, subst, arith, inl, Some}
+use Rattle.std.proofs.Common.{◌∙◌, ◌∷◌, [], ap, sym, refl, subst, arith}
 use Rattle.std.proofs.lemmas.Result.{err_from_is_err_and}
 use Rattle.rel_path.specs.Files.{file_at, over}
 use Rattle.spawn_dev.specs.declared.command.Step.TheVariants.{End}
-use Rattle.spawn_dev.specs.Spawn.{put_at}
 use Rattle.run_core.specs.declared.states.Next.TheVariants as turn
 use Rattle.run_core.specs.Core.{rules, states}
 use Rattle.run_core.specs.Machine.{runs, is_done}
@@ -145,9 +144,9 @@ returns-in_err-report-clause-world g c =
       ours = ours-same plan mid new settle.runs
           (ours-over plan old mid ended.place wait.over.at c.requires.steps.ours);
       further = λ told. (
-          End ended ∷ [],
-          ap (λ w. w.steps) settle.runs ∙ (wait.ends told).steps,
-          );
+        End ended ∷ [],
+        ap (λ w. w.steps) settle.runs ∙ (wait.ends told).steps,
+      );
       elsewhere = λ told. elsewhere-then plan (g.W.Tree.state c.args.world.now).files
           (g.W.Tree.state c.wait.new.world).files (g.W.Tree.state c.settle.new.world).files
           (elsewhere-over plan old mid ended.place _ _ c.requires.steps.ours wait.over)
@@ -278,9 +277,9 @@ returns-clause-world g c =
       ours = ours-same plan mid new settle.runs
           (ours-over plan old mid ended.place wait.over.at c.requires.steps.ours);
       further = λ told. (
-          End ended ∷ [],
-          ap (λ w. w.steps) settle.runs ∙ (wait.ends told).steps,
-          );
+        End ended ∷ [],
+        ap (λ w. w.steps) settle.runs ∙ (wait.ends told).steps,
+      );
       elsewhere = λ told. elsewhere-then plan (g.W.Tree.state c.args.world.now).files
           (g.W.Tree.state c.wait.new.world).files (g.W.Tree.state c.settle.new.world).files
           (elsewhere-over plan old mid ended.place _ _ c.requires.steps.ours wait.over)

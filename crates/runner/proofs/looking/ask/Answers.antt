@@ -228,7 +228,10 @@ returns-clause-stands g c told store o stands =
     sym (look.found store ∙ (λ i. found artifact_in (key i) (outs i).outs cache.pairs))
     ∙ ap (found_as (g.C.Cache.shows c.look_up.new.cache)) c.in-Some.is in
     let report : Report = record {
-      mark = printed_mark.Hit; digits = digits_of plan t; status = 0; note = printed_note.Stored;
+      mark = printed_mark.Hit;
+      digits = digits_of plan t;
+      status = 0;
+      note = printed_note.Stored;
     } in
     let story = c.story_law.ensures.hit plan o now t last.room a stands is c.requires.script
     (omega (arith, look.reads.keeps.room, replay.reads.keeps.room)) c.requires.asks some in
@@ -246,7 +249,10 @@ returns-clause-stands g c told store o stands =
     (sym (replay.replayed told store)) (sym (replay.reads.pairs store ∙ look.reads.pairs store))
     refl
     (sym (c.hit.ensures.reports ∙ (λ i. put_at now.reports t (Some (record {
-      mark = printed_mark.Hit; digits = replay.digits i; status = 0; note = printed_note.Stored;
+      mark = printed_mark.Hit;
+      digits = replay.digits i;
+      status = 0;
+      note = printed_note.Stored;
     })))))
     (sym (c.hit.ensures.logs ∙ (λ i. put_at now.logs t (replay.log store i))))
     (sym c.hit.ensures.shown) story

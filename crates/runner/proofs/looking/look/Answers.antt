@@ -1,4 +1,4 @@
-use Rattle.std.proofs.Common.{◌≡◌, ◌≤◌, ◌∙◌, ap, sym, refl, subst, arith, inl}
+use Rattle.std.proofs.Common.{◌≤◌, ◌∙◌, sym, refl, subst, arith, inl}
 use Rattle.cache_api.specs.Calls.{reads_none}
 use Rattle.run_core.specs.declared.states.Next.TheVariants as turn
 use Rattle.run_core.specs.declared.states.State.TheVariants.{Passed, Missed}

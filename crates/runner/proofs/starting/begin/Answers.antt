@@ -1,4 +1,4 @@
-use Rattle.std.proofs.Common.{◌≡◌, ◌∙◌, ap, sym, refl, arith, ◌++◌, ◌∷◌, []}
+use Rattle.std.proofs.Common.{◌∙◌, ap, sym, refl, arith, ◌++◌, ◌∷◌, []}
 use Rattle.std.specs.Prelude.{is_some}
 use Rattle.std.proofs.lemmas.Result.{err_from_is_err_and}
 use Rattle.globs.specs.OwnedFiles.{cleared}
@@ -233,11 +233,11 @@ returns-clause-world g c =
       book = c.in_ok-start.ensures.book ∙ ap (λ w. w.book) clear.runs;
       ours = (returns-clause-steps g c).ours;
       further = λ told. (
-          Start (command_of plan t) ∷ [],
-          own-steps plan st t c.in_ok-command.command c.in_ok-command.ensures.command old mid new
-              clear.runs c.in_ok-start.ensures.started g.W.Spawner.effect
-              (g.W.Tree.state c.clear_owned.new.world).files (c.in_ok-start.ensures.begins told),
-          );
+        Start (command_of plan t) ∷ [],
+        own-steps plan st t c.in_ok-command.command c.in_ok-command.ensures.command old mid new
+            clear.runs c.in_ok-start.ensures.started g.W.Spawner.effect
+            (g.W.Tree.state c.clear_owned.new.world).files (c.in_ok-start.ensures.begins told),
+      );
       elsewhere = λ told. elsewhere-then plan (g.W.Tree.state c.args.world.now).files
           (g.W.Tree.state c.clear_owned.new.world).files (g.W.Tree.state c.start.new.world).files
           (elsewhere-only plan t _ _ script (clear.others told))
