@@ -99,10 +99,10 @@ module _ {D S X : Type 0} (state : S → CacheState D) (moment : S → Moment)
       (λ image. IsFurther (state b).pairs (says (state b).base image))
       (λ image. IsFurther (state a).pairs (says (state a).base image)) x y (λ image is. is)
       (λ image is. (
-      grows.0 ++ is.0,
-      ap (λ (base : D). says base image) (sym keeps.base) ∙ is.1
-      ∙ ap (λ (list : List Pair). Some list) (ap (λ list. list ++ is.0) grows.1
-      ∙ append_assoc (state a).pairs grows.0 is.0),
+        grows.0 ++ is.0,
+        ap (λ (base : D). says base image) (sym keeps.base) ∙ is.1
+            ∙ ap (λ (list : List Pair). Some list) (ap (λ list. list ++ is.0) grows.1
+            ∙ append_assoc (state a).pairs grows.0 is.0),
       ))
 
   module _ (tells : Type 0) where
@@ -126,8 +126,11 @@ module _ {D S X : Type 0} (state : S → CacheState D) (moment : S → Moment)
       images = λ told. leaves_more moment left old new
           (λ image. says (state old).base image ≡ Some (state old).pairs)
           (λ image. IsFurther (state old).pairs (says (state old).base image)) (leaves told)
-          (λ image is. ([], is
-          ∙ ap (λ (list : List Pair). Some list) (sym (append-nil (state old).pairs))));
+          (λ image is. (
+            [],
+            is
+                ∙ ap (λ (list : List Pair). Some list) (sym (append-nil (state old).pairs)),
+          ));
     }
 
     pub cache-none : (cache : S) → (tells → (image : X) → left cache (moment cache) image

@@ -2,24 +2,22 @@
 use Rattle.std.proofs.Common.{◌≡◌, ◌≢◌, ◌⊎◌, ℕ, ◌==◌, Bool, true, false, ◌&&◌, ◌||◌, List, [], ◌∷◌, ◌++◌, map, refl, sym, ap, ◌∙◌, inl, inr, append_assoc, append-nil}
 use Rattle.std.specs.Prelude.{Result, Ok, Err, IfOk, OnErr}
 use Rattle.std.specs.List.{list_any}
-use Rattle.std.proofs.lemmas.Bool.{ne_eqb, or_cases, true≢false, false_from_ne_true}
+use Rattle.std.proofs.lemmas.Bool.{ne_eqb, true≢false, false_from_ne_true}
 use Rattle.std.proofs.lemmas.List.{append_cancel_left}
 use Rattle.std.proofs.lemmas.List.Folds.{list_any-append}
 use Rattle.rel_path.specs.Causes.{CountsFaults}
 use Rattle.rel_path.specs.Files.{FileMap}
 use Rattle.cache_api.specs.Pairs.{Pair}
-use Rattle.spawn_dev.specs.declared.command.Command.{Command}
 use Rattle.spawn_dev.specs.declared.command.Ended.{Ended}
 use Rattle.spawn_dev.specs.declared.command.Step.{Step as Told}
 use Rattle.spawn_dev.specs.declared.command.Step.TheVariants as told
 use Rattle.spawn_dev.specs.Spawn.{Runs, live, IsIdle, IsOver, EndsAs}
 use Rattle.run_core.specs.declared.states.Step.{Step}
 use Rattle.run_core.specs.declared.states.Step.TheVariants.{Start, End}
-use Rattle.run_core.specs.Greedy.{is_start, is_end, started, ended}
+use Rattle.run_core.specs.Greedy.{started, ended}
 use Rattle.run_core.proofs.Any.{any-push_none}
 use Rattle.run_laws.specs.Runs.{Setting}
 use Rattle.run_plan.specs.declared.plan.Plan.{Plan}
-use Rattle.run_plan.specs.Commands.{command_of}
 use Rattle.run_plan.specs.Halts.{HaltLaw}
 use Rattle.run_plan.specs.Openings.{Opening, setting_of}
 use Rattle.run_plan.specs.Results.{step_of}
@@ -62,64 +60,64 @@ other-end : (t : ℕ) (end : Ended) → t ≢ end.place → ends_at t (told.End 
 other-end t end d = ne_eqb end.place t (λ e. d (sym e))
 
 module _ {B : Type 0} (old mid new : Runs B) (files later : FileMap) (waited : Waited old mid)
-    where
-  lost-on : (place : ℕ) → IsOver place mid new files later → (more : List Told)
-      → ((t : ℕ) → t ≢ place → list_any (ends_at t) more ≡ list_any (ends_at t) waited.late)
-      → Lost old mid waited.late → Lost old new more
-  lost-on place over more same lost = record {
-    place = lost.place;
-    ran = lost.ran;
-    over = false_from_ne_true (live new lost.place)
-        (λ lives. true≢false (sym (gone mid new place over.at lost.place lives).1 ∙ lost.over));
-    unended = same lost.place (λ e. true≢false (sym (there-is (mid.at place) over.command over.ran)
-        ∙ ap (live mid) (sym e) ∙ lost.over)) ∙ lost.unended;
-  }
+  where
+    lost-on : (place : ℕ) → IsOver place mid new files later → (more : List Told)
+        → ((t : ℕ) → t ≢ place → list_any (ends_at t) more ≡ list_any (ends_at t) waited.late)
+        → Lost old mid waited.late → Lost old new more
+    lost-on place over more same lost = record {
+      place = lost.place;
+      ran = lost.ran;
+      over = false_from_ne_true (live new lost.place)
+          (λ lives. true≢false (sym (gone mid new place over.at lost.place lives).1 ∙ lost.over));
+      unended = same lost.place (λ e. true≢false (sym (there-is (mid.at place) over.command over.ran)
+          ∙ ap (live mid) (sym e) ∙ lost.over)) ∙ lost.unended;
+    }
 
-  behind : (end : Ended) → IsOver end.place mid new files later → EndsAs end mid new files later
-      → new.faults ≡ mid.faults → Waited old new
-  behind end over ends calm =
-      let more = waited.late ++ told.End end ∷ [] in
-      let same : (t : ℕ) → t ≢ end.place
-      → list_any (ends_at t) more ≡ list_any (ends_at t) waited.late =
-      λ t d. any-push_none (ends_at t) waited.late (told.End end) (other-end t end d) in
-      record {
-        late = more;
-        steps_are = ends.steps ∙ ap (λ list. list ++ told.End end ∷ []) waited.steps_are
-            ∙ append_assoc old.steps waited.late (told.End end ∷ []);
-        ran = λ t lives.
-            let was = gone mid new end.place over.at t lives in
-            let ran = waited.ran t was.1 in
-            (ran.0, same t was.0 ∙ ran.1);
-        whether = elim waited.whether [
-          | inl faults ↦ inl (calm ∙ faults)
-          | inr lost ↦ inr (lost-on end.place over more same lost)
-        ];
-      }
+    behind : (end : Ended) → IsOver end.place mid new files later → EndsAs end mid new files later
+        → new.faults ≡ mid.faults → Waited old new
+    behind end over ends calm =
+        let more = waited.late ++ told.End end ∷ [] in
+        let same : (t : ℕ) → t ≢ end.place
+        → list_any (ends_at t) more ≡ list_any (ends_at t) waited.late =
+        λ t d. any-push_none (ends_at t) waited.late (told.End end) (other-end t end d) in
+        record {
+          late = more;
+          steps_are = ends.steps ∙ ap (λ list. list ++ told.End end ∷ []) waited.steps_are
+              ∙ append_assoc old.steps waited.late (told.End end ∷ []);
+          ran = λ t lives.
+              let was = gone mid new end.place over.at t lives in
+              let ran = waited.ran t was.1 in
+              (ran.0, same t was.0 ∙ ran.1);
+          whether = elim waited.whether [
+            | inl faults ↦ inl (calm ∙ faults)
+            | inr lost ↦ inr (lost-on end.place over more same lost)
+          ];
+        }
 
-  unsaid : (place : ℕ) → IsOver place mid new files later → new.steps ≡ mid.steps → Waited old new
-  unsaid place over steps =
-      let ran = waited.ran place (there-is (mid.at place) over.command over.ran) in
-      record {
-        late = waited.late;
-        steps_are = steps ∙ waited.steps_are;
-        ran = λ t lives. waited.ran t (gone mid new place over.at t lives).1;
-        whether = inr (record {
-          place = place;
-          ran = ran.0;
-          over = false_from_ne_true (live new place)
-              (λ lives. (gone mid new place over.at place lives).0 refl);
-          unended = ran.1;
-        });
-      }
+    unsaid : (place : ℕ) → IsOver place mid new files later → new.steps ≡ mid.steps → Waited old new
+    unsaid place over steps =
+        let ran = waited.ran place (there-is (mid.at place) over.command over.ran) in
+        record {
+          late = waited.late;
+          steps_are = steps ∙ waited.steps_are;
+          ran = λ t lives. waited.ran t (gone mid new place over.at t lives).1;
+          whether = inr (record {
+            place = place;
+            ran = ran.0;
+            over = false_from_ne_true (live new place)
+                (λ lives. (gone mid new place over.at place lives).0 refl);
+            unended = ran.1;
+          });
+        }
 
-  pub waited-more : {E : Type 0} (result : Result Ended E)
-      → IfOk result (λ end. IsOver end.place mid new files later)
-      → IfOk result (λ end. EndsAs end mid new files later)
-      → OnErr result ((place : ℕ) × IsOver place mid new files later)
-      → OnErr result (new.steps ≡ mid.steps) → IfOk result (λ end. new.faults ≡ mid.faults)
-      → Waited old new
-  waited-more (Ok end) over ends failed same calm = behind end over ends calm
-  waited-more (Err e) over ends failed same calm = unsaid failed.0 failed.1 same
+    pub waited-more : {E : Type 0} (result : Result Ended E)
+        → IfOk result (λ end. IsOver end.place mid new files later)
+        → IfOk result (λ end. EndsAs end mid new files later)
+        → OnErr result ((place : ℕ) × IsOver place mid new files later)
+        → OnErr result (new.steps ≡ mid.steps) → IfOk result (λ end. new.faults ≡ mid.faults)
+        → Waited old new
+    waited-more (Ok end) over ends failed same calm = behind end over ends calm
+    waited-more (Err e) over ends failed same calm = unsaid failed.0 failed.1 same
 
 pub waits-for : {B : Type 0} (old new : Runs B) → Waited old new → IsIdle new → WaitsFor old new
 waits-for old new waited idle = record {

@@ -1,5 +1,5 @@
 -- The end of a command, and what is kept of it.
-use Rattle.std.proofs.Common.{◌≡◌, ℕ, ◌≤◌, Bool, List, [], ◌∷◌, ◌++◌, length, refl, sym, ap, ◌∙◌, subst, arith, inl, inr, Option, Some, append-nil, length-append}
+use Rattle.std.proofs.Common.{◌≡◌, ℕ, ◌≤◌, Bool, List, [], ◌∷◌, ◌++◌, length, sym, ap, ◌∙◌, subst, arith, inl, inr, Option, Some, append-nil, length-append}
 use Rattle.rel_path.specs.Files.{FileMap, file_at, over}
 use Rattle.cache_api.specs.Cache.{CacheState}
 use Rattle.cache_api.specs.Moments.{Moment, Leaves, leaves_more}

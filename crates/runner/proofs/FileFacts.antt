@@ -1,5 +1,5 @@
 -- Which files calls leave as they are.
-use Rattle.std.proofs.Common.{◌≡◌, ◌≢◌, ℕ, Bool, true, false, refl, sym, ap, ◌∙◌, Some}
+use Rattle.std.proofs.Common.{◌≡◌, ℕ, true, false, ap, ◌∙◌}
 use Rattle.rel_path.specs.Paths.{Path}
 use Rattle.rel_path.specs.Files.{FileMap}
 use Rattle.globs.specs.Outputs.{takes}
@@ -7,10 +7,8 @@ use Rattle.spawn_dev.specs.declared.command.Command.{Command}
 use Rattle.spawn_dev.specs.Spawn.{Runs, IsOver}
 use Rattle.run_core.specs.Machine.{States, is_done}
 use Rattle.run_laws.specs.Ancestors.{part_at, has_script}
-use Rattle.run_laws.specs.Plans.{log_path}
 use Rattle.run_plan.specs.declared.plan.Plan.{Plan}
 use Rattle.run_plan.specs.Answers.{SameElsewhere, OnlyUndone}
-use Rattle.run_plan.specs.Commands.{command_of}
 use Rattle.run_plan.proofs.CommandFacts.{outs-is}
 use Rattle.task_devices.specs.Devices.{OnlyAt}
 use Rattle.runner.specs.Running.{AreOurs}

@@ -1,21 +1,19 @@
 -- How a run stops that came this far.
-use Rattle.std.proofs.Common.{◌≡◌, ◌≢◌, ℕ, ◌≤◌, Bool, true, false, ◌&&◌, ◌||◌, List, [], ◌∷◌, ◌++◌, refl, sym, ap, ◌∙◌, subst, inl, inr, None}
+use Rattle.std.proofs.Common.{◌≡◌, ◌≢◌, ℕ, ◌≤◌, Bool, true, false, List, [], ◌∷◌, ◌++◌, refl, sym, ap, ◌∙◌, subst, inl, inr, None}
 use Rattle.std.specs.Prelude.{is_some, Result, Ok, Err, IfOk, OnErr}
 use Rattle.std.proofs.lemmas.Bool.{cases_eq, eq-eqb, ne_eqb, true≢false}
 use Rattle.rel_path.specs.Files.{FileMap}
 use Rattle.tree_dev.specs.Tree.{TreeState}
 use Rattle.cache_api.specs.Pairs.{Pair}
 use Rattle.spawn_dev.specs.declared.command.Ended.{Ended}
-use Rattle.spawn_dev.specs.declared.command.Step.{Step as Told}
 use Rattle.spawn_dev.specs.declared.command.Step.TheVariants as told
 use Rattle.spawn_dev.specs.declared.effect.Effect.{Effect}
 use Rattle.spawn_dev.specs.Effects.{Seen}
 use Rattle.spawn_dev.specs.Spawn.{Runs, live, put_at, KeepsWill, IsOver, EndsAs}
-use Rattle.run_core.specs.declared.states.Step.{Step}
 use Rattle.run_core.specs.declared.states.Step.TheVariants.{End}
 use Rattle.run_core.specs.Core.{states}
-use Rattle.run_core.specs.Greedy.{is_end, ended}
-use Rattle.run_core.specs.Machine.{runs, is_done, IsCalm}
+use Rattle.run_core.specs.Greedy.{is_end}
+use Rattle.run_core.specs.Machine.{is_done, IsCalm}
 use Rattle.run_core.proofs.Any.{any-push_none}
 use Rattle.run_plan.specs.declared.plan.Plan.{Plan}
 use Rattle.run_plan.specs.Answers.{OnlyUndone}
@@ -24,7 +22,7 @@ use Rattle.run_plan.specs.Openings.{Opening, rules_of}
 use Rattle.run_plan.specs.Stories.{Now}
 use Rattle.run_plan.specs.StoryLaws.{Stands, EndsNow}
 use Rattle.runner.specs.declared.board.Board.{Board}
-use Rattle.runner.specs.Halting.{HaltsFrom, HaltsNow, StillRuns}
+use Rattle.runner.specs.Halting.{HaltsFrom, HaltsNow}
 use Rattle.runner.specs.Progress.{now_at}
 use Rattle.runner.specs.Running.{AreOurs, InStep}
 use Rattle.runner.proofs.FileFacts.{undone-over}

@@ -1,20 +1,18 @@
 -- Which paths are held while commands run.
-use Rattle.std.proofs.Common.{◌≡◌, ◌≢◌, ◌⊎◌, ℕ, zero, suc, ◌<◌, Bool, true, false, cond, List, [], ◌∷◌, length, get_or, refl, sym, ap, ◌∙◌, subst, inl, inr, Option, Some, None}
-use Rattle.std.specs.Prelude.{is_some}
+use Rattle.std.proofs.Common.{◌≡◌, ◌≢◌, ◌⊎◌, ℕ, zero, suc, ◌<◌, Bool, true, false, List, [], ◌∷◌, length, get_or, refl, sym, ap, ◌∙◌, inl, inr}
 use Rattle.std.specs.List.{list_any}
-use Rattle.std.proofs.lemmas.Bool.{cases_Bool, cases_eq, eq-eqb, ne_eqb, false≢true, true≢false, and_parts, or_cases, false_from_ne_true}
+use Rattle.std.proofs.lemmas.Bool.{cases_Bool, false≢true, true≢false, and_parts, or_cases, false_from_ne_true}
 use Rattle.rel_path.specs.Paths.{Path, is_among}
-use Rattle.rel_path.specs.Files.{FileMap, over}
+use Rattle.rel_path.specs.Files.{FileMap}
 use Rattle.globs.specs.Outputs.{takes, shares}
 use Rattle.globs.specs.OwnedFiles.{cleared}
 use Rattle.capture.specs.Owned.{declares}
 use Rattle.listing.specs.declared.part.Part.{Part}
 use Rattle.spawn_dev.specs.declared.command.Command.{Command}
 use Rattle.spawn_dev.specs.Effects.{may_read}
-use Rattle.spawn_dev.specs.Spawn.{Runs, live, put_at, IsOwned, KeepsClear, OwnsNothing, ReadsFree, Starts, IsOver, Refuses}
-use Rattle.run_core.specs.declared.states.State.{State}
-use Rattle.run_core.specs.declared.states.State.TheVariants.{Waiting, Missed, Running, Passed, Ended, Left}
-use Rattle.run_core.specs.Machine.{States, put, after_end, is_well, is_known, runs, IsCalm}
+use Rattle.spawn_dev.specs.Spawn.{Runs, live, IsOwned, KeepsClear, OwnsNothing, ReadsFree}
+use Rattle.run_core.specs.declared.states.State.TheVariants.{Missed}
+use Rattle.run_core.specs.Machine.{States, is_well, is_known, runs, IsCalm}
 use Rattle.run_laws.specs.Picks.{pick}
 use Rattle.run_laws.specs.Ancestors.{part_at, blank, has_script, is_above}
 use Rattle.run_laws.specs.Closures.{names}
@@ -26,13 +24,11 @@ use Rattle.run_plan.specs.declared.plan.Plan.{Plan}
 use Rattle.run_plan.specs.Commands.{command_of}
 use Rattle.run_plan.specs.Openings.{rules_of}
 use Rattle.run_plan.specs.Plans.{IsValidPlan}
-use Rattle.run_plan.specs.Answers.{SameElsewhere}
-use Rattle.run_plan.proofs.Steps.{split, leads-same}
-use Rattle.run_plan.proofs.Ending.{end-split}
+use Rattle.run_plan.proofs.Steps.{leads-same}
 use Rattle.run_plan.proofs.CommandFacts.{may-read, outs-is, place-is}
 use Rattle.run_plan.proofs.Closing.{script-below}
 use Rattle.runner.specs.Running.{AreOurs, InStep, is_begun}
-use Rattle.task_devices.specs.Devices.{IsFree, OnlyAt}
+use Rattle.task_devices.specs.Devices.{IsFree}
 use Rattle.runner.proofs.WorldFacts.{running-is, there-is}
 
 some-picked : (t : Part → Bool) (keep : ℕ → Bool) (xs : List Part) → list_any t (pick keep xs) ≡ true → (a : ℕ) × (keep a ≡ true) × (t (get_or xs a blank) ≡ true)

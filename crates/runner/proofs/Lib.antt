@@ -1,4 +1,5 @@
 mod BoardFacts
+mod TurnFacts
 mod StoryFacts
 mod PageFacts
 mod CacheFacts
@@ -12,3 +13,4 @@ mod StartFacts
 mod EndFacts
 mod DrainFacts
 mod RoundFacts
+mod FinishFacts

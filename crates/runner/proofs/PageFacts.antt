@@ -1,10 +1,9 @@
 -- The page as it comes.
-use Rattle.std.proofs.Common.{◌≡◌, ◌≢◌, ℕ, ◌+◌, ◌<◌, ◌≤◌, Bool, false, List, [], ◌++◌, cond, length, take, refl, sym, ap, ◌∙◌, subst, arith, inl, inr, Option, Some, None, append_assoc, append-nil, add-one}
-use Rattle.std.specs.Prelude.{◌&&◌, nat_lt, Err}
-use Rattle.std.proofs.lemmas.Bool.{ne_eqb, lt-ltb, le-ltb, ltb-false, cases_Bool}
+use Rattle.std.proofs.Common.{◌≡◌, ◌≢◌, ℕ, ◌+◌, ◌<◌, ◌≤◌, Bool, List, [], ◌++◌, cond, length, take, refl, sym, ap, ◌∙◌, subst, arith, inl, inr, Option, Some, None, append_assoc, append-nil, add-one}
+use Rattle.std.specs.Prelude.{Err}
+use Rattle.std.proofs.lemmas.Bool.{ne_eqb, lt-ltb, le-ltb}
 use Rattle.std.proofs.lemmas.List.{append_cancel_left}
 use Rattle.page.specs.declared.blocks.Note.{Note}
-use Rattle.page.specs.declared.blocks.Note.TheVariants.{Stored}
 use Rattle.spawn_dev.specs.Spawn.{put_at}
 use Rattle.run_core.specs.declared.states.State.TheVariants.{Waiting}
 use Rattle.run_core.specs.Core.{states}
@@ -16,7 +15,7 @@ use Rattle.run_plan.specs.Answers.Cause.{Device, Output, Memory}
 use Rattle.run_plan.specs.Openings.{Opening, setting_of}
 use Rattle.run_plan.specs.Pages.{shows, block_at, blocks, text_behind, IsCut}
 use Rattle.run_plan.specs.Reports.{report_in, summary_by}
-use Rattle.run_plan.specs.Stories.{Now, is_settled, notes_in}
+use Rattle.run_plan.specs.Stories.{Now, notes_in}
 use Rattle.run_plan.specs.StoryLaws.{Stands, StoryLaw, blocks_upto}
 use Rattle.task_devices.specs.declared.error.RunErr.{RunErr}
 use Rattle.task_devices.specs.declared.error.RunErr.TheVariants.{TreeFault, StoreFault, StartFault, SinkFault, OutOfMemory}
@@ -220,15 +219,3 @@ module _ (plan : Plan) (law : StoryLaw) (old new : Board) (core : new.core ≡ o
       ∙ append_assoc before (blocks_upto plan o (with_board now old) old.shown)
       (next_text plan old)
       ∙ ap (λ x. before ++ x) (sym (next-is plan law old o now stands) ∙ same)
-
--- where the next task cannot be shown, none waits to be shown
-pub prompt-is : (plan : Plan) (board : Board) → board.shown ≤ length plan.listing.parts
-    → (nat_lt board.shown (length plan.listing.parts)
-    && is_settled (states board.core board.shown)) ≡ false
-    → IsPrompt plan (states board.core) board.shown
-prompt-is plan board le h =
-    elim (cases_Bool (nat_lt board.shown (length plan.listing.parts))) [
-      | inl below ↦ inl (rw below at h)
-      | inr past ↦ let ge = ltb-false board.shown (length plan.listing.parts) past in
-          inr (omega (arith, le, ge))
-    ]

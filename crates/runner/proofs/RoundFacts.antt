@@ -1,12 +1,12 @@
 -- Turns and rounds, one after another, and how a run begins.
-use Rattle.std.proofs.Common.{◌≡◌, ◌⊎◌, ℕ, ◌<◌, ◌≤◌, Bool, true, false, List, [], ◌∷◌, ◌++◌, refl, sym, ap, ◌∙◌, subst, arith, inl, append_assoc, append-nil, Option, None, Some}
+use Rattle.std.proofs.Common.{◌≡◌, ℕ, ◌<◌, Bool, true, false, List, [], ◌∷◌, ◌++◌, refl, sym, ap, ◌∙◌, subst, arith, inl, append_assoc, append-nil, None}
 use Rattle.std.proofs.lemmas.Bool.{true≢false, false≢true}
 use Rattle.std.proofs.lemmas.List.{append_cancel_left}
 use Rattle.tree_dev.specs.Tree.{TreeState}
 use Rattle.cache_api.specs.Cache.{CacheState}
 use Rattle.spawn_dev.specs.declared.effect.Effect.{Effect}
 use Rattle.spawn_dev.specs.Effects.{Seen}
-use Rattle.spawn_dev.specs.Spawn.{Runs, live, IsIdle}
+use Rattle.spawn_dev.specs.Spawn.{Runs, IsIdle}
 use Rattle.run_core.specs.declared.states.State.TheVariants.{Waiting}
 use Rattle.run_core.specs.declared.states.Next.TheVariants.{Finished}
 use Rattle.run_core.specs.Core.{states}
@@ -21,7 +21,7 @@ use Rattle.run_plan.specs.Stories.{Now, is_settled}
 use Rattle.run_plan.specs.StoryLaws.{Stands, StoryLaw, blocks_upto}
 use Rattle.runner.specs.declared.board.Board.{Board}
 use Rattle.runner.specs.Answers.{Grows, opening_of}
-use Rattle.runner.specs.Boards.{IsBoard, IsMove, IsOver, IsRound, IsTurn, IsUpToDate, HasFewerTurns, KeepsSettled, ShowsSettled}
+use Rattle.runner.specs.Boards.{IsBoard, IsRound, IsTurn, IsUpToDate, KeepsSettled, ShowsSettled}
 use Rattle.runner.specs.Halting.{HaltsNow}
 use Rattle.runner.specs.Progress.{PageIs, now_of, with_board}
 use Rattle.runner.specs.Running.{AreOurs}
@@ -53,7 +53,9 @@ pub turn-keeps : (plan : Plan) (old new : Board) (more : Bool) → IsTurn plan o
     → KeepsSettled old new
 turn-keeps plan old new true is = is.settled
 turn-keeps plan old new false is = subst (KeepsSettled old) (sym is.0) (record {
-  shown = refl; states_are = λ u h. refl; reports_are = λ u h. refl;
+  shown = refl;
+  states_are = λ u h. refl;
+  reports_are = λ u h. refl;
 })
 
 pub turn-board : (plan : Plan) (old new : Board) (more : Bool) → IsBoard plan old
@@ -94,8 +96,8 @@ page-kept plan law o old new x y keeps settled before written page =
     let first = with_board x old in
     let mid = with_board y new in
     let kept = law.kept plan o first mid old.shown (λ u h. (
-    keeps.states_are u (settled u h),
-    keeps.reports_are u (settled u h),
+      keeps.states_are u (settled u h),
+      keeps.reports_are u (settled u h),
     )) in
     let same : blocks_upto plan o first old.shown ≡ blocks_upto plan o mid new.shown =
     sym kept ∙ ap (blocks_upto plan o mid) (sym keeps.shown) in

@@ -1,33 +1,19 @@
 -- What commands will do that run on, after a start or an end.
-use Rattle.std.proofs.Common.{◌≡◌, ◌≢◌, ℕ, ◌≤◌, Bool, true, false, cond, List, [], ◌∷◌, ◌++◌, refl, sym, ap, ◌∙◌, subst, inl, inr, None}
-use Rattle.std.specs.Prelude.{is_some, Result, Ok, Err, IfOk, OnErr}
+use Rattle.std.proofs.Common.{◌≡◌, ◌≢◌, ℕ, true, false, [], ◌∷◌, ◌++◌, refl, sym, ap, ◌∙◌, None}
+use Rattle.std.specs.Prelude.{is_some}
 use Rattle.std.proofs.lemmas.Bool.{eq-eqb, ne_eqb}
-use Rattle.rel_path.specs.Files.{FileMap, file_at, over}
+use Rattle.rel_path.specs.Files.{FileMap}
 use Rattle.globs.specs.OwnedFiles.{cleared}
 use Rattle.spawn_dev.specs.declared.command.Command.{Command}
-use Rattle.spawn_dev.specs.declared.command.Ended.{Ended}
-use Rattle.spawn_dev.specs.declared.command.Step.{Step}
-use Rattle.spawn_dev.specs.declared.command.Step.TheVariants.{Start, End}
+use Rattle.spawn_dev.specs.declared.command.Step.TheVariants.{Start}
 use Rattle.spawn_dev.specs.declared.effect.Effect.{Effect}
 use Rattle.spawn_dev.specs.Effects.{Seen, seen_by}
-use Rattle.spawn_dev.specs.Spawn.{Runs, live, put_at, Starts, BeginsAs, KeepsWill, IsOver, EndsAs}
-use Rattle.cache_api.specs.Pairs.{Pair}
+use Rattle.spawn_dev.specs.Spawn.{Runs, live, put_at, Starts, BeginsAs, KeepsWill}
 use Rattle.run_core.specs.declared.states.State.TheVariants.{Running, Missed}
-use Rattle.run_core.specs.declared.states.Next.TheVariants.{WaitFirst}
-use Rattle.run_core.specs.Machine.{States, runs, next, IsCalm}
+use Rattle.run_core.specs.Machine.{States, runs}
 use Rattle.run_laws.specs.Ancestors.{part_at}
-use Rattle.run_laws.specs.Keys.{key_of}
-use Rattle.run_laws.specs.Worlds.{logged}
-use Rattle.page.specs.declared.blocks.Mark.TheVariants as printed_mark
-use Rattle.page.specs.declared.blocks.Note.{Note}
-use Rattle.page.specs.declared.blocks.Note.TheVariants.{Stored}
 use Rattle.run_plan.specs.declared.plan.Plan.{Plan}
 use Rattle.run_plan.specs.Commands.{command_of}
-use Rattle.run_plan.specs.Openings.{Opening, rules_of}
-use Rattle.run_plan.specs.Plans.{bypasses}
-use Rattle.run_plan.specs.Answers.{IsSafe}
-use Rattle.run_plan.specs.Stories.{Now, Story}
-use Rattle.run_plan.specs.StoryLaws.{Stands, StoryLaw, TellsGood, EndIs, KeptIf, to_put}
 use Rattle.run_plan.proofs.CommandFacts.{place-is}
 use Rattle.runner.specs.Running.{InStep}
 

@@ -15,6 +15,7 @@ use Rattle.run_plan.specs.Answers.{Cause, IsSafe}
 use Rattle.run_plan.specs.Answers.Cause.{Device, Output, Memory}
 use Rattle.run_plan.specs.Openings.{Opening}
 use Rattle.task_devices.specs.Keeping.{IsFurther}
+use Rattle.task_devices.specs.Stops.{Faults, faults_of}
 use Rattle.task_devices.specs.declared.error.RunErr.{RunErr}
 use Rattle.task_devices.specs.declared.error.RunErr.TheVariants.{TreeFault, StoreFault, StartFault, SinkFault, OutOfMemory}
 
@@ -27,6 +28,10 @@ opening_of effect world tree cache = record {
   pairs = cache.pairs;
   steps = world.steps;
 }
+
+-- the counts of faults of the devices, of which the last one is the output's
+abbrev pub faults_in : {R D B : Type 0} → TreeState R → CacheState D → Runs B → ℕ → Faults
+faults_in tree cache world sink = faults_of tree.faults cache.faults world.faults sink
 
 -- what stopped the run
 abbrev pub cause_of : RunErr → Cause
@@ -55,8 +60,8 @@ abbrev pub HasSafePairs : Plan → Opening → ℕ → List Told → Option (Lis
 HasSafePairs plan o room steps said =
     (pairs : List Pair) × (said ≡ Some pairs) × IsSafe plan o room steps pairs
 
--- What a crash leaves at any moment from the old cache to the new one. D is what the cache keeps, S the cache, X what a
--- crash leaves.
+-- What a crash leaves at any moment from the old cache to the new one. D is what the cache keeps,
+-- S the cache, X what a crash leaves.
 module _ {D S X : Type 0} (state : S → CacheState D) (moment : S → Moment)
     (left : S → Moment → X → Type 0) (says : D → X → Option (List Pair)) where
   -- the pairs of the old cache, and more behind them

@@ -27,9 +27,11 @@ pub record IsFlag (plan : Plan) (st : States) (t : ℕ) (flag : Bool) : Type 0 w
 
 -- where the fingerprint is known, it is that of the task's key
 abbrev pub IsKnown : Plan → ℕ → Option (List ℕ) → Type 0
-IsKnown plan t known = (print : List ℕ) → known ≡ Some print → print ≡ sha256 (key_of plan.listing t)
+IsKnown plan t known =
+    (print : List ℕ) → known ≡ Some print → print ≡ sha256 (key_of plan.listing t)
 
--- the scheduler is over the plan's tasks, each table has room for all of them, and each flag and fingerprint is right
+-- the scheduler is over the plan's tasks, each table has room for all of them, and each flag and
+-- fingerprint is right
 pub record IsBoard (plan : Plan) (board : Board) : Type 0 where
   pub rules_are : rules board.core ≡ rules_of plan
   pub commands : has_command board.core ≡ (λ t. has_script (part_at plan.listing t))

@@ -16,7 +16,8 @@ use Rattle.task_devices.specs.Keeping.{MayBeKept}
 abbrev pub with_log : Plan → Ended → FileMap → FileMap
 with_log plan end files = logged (part_at plan.listing end.place) end.log files
 
--- what came of the result of the end: it was kept for the reason that the note gives, or is not to be put
+-- what came of the result of the end: it was kept for the reason that the note gives, or is not to
+-- be put
 abbrev pub IsKeptOf : Plan → Ended → Bool → FileMap → List Pair → ℕ → List Pair → Note → Type 0
 IsKeptOf plan end sound files before room after note =
     KeptIf (to_put plan sound end.place end.status)

@@ -41,7 +41,8 @@ pub record CacheGoes {D S X : Type 0} (tells : Type 0) (state : S → CacheState
 
 -- ---- a run that stops
 
--- The command runs by the states, its end is not among these, and it will do what it would have done.
+-- The command runs by the states, its end is not among these, and it will do what it would have
+-- done.
 pub record StillRuns {B : Type 0} (now : Now) (late : List Step) (world : Runs B) (t : ℕ)
     : Type 0 where
   pub running : now.states t ≡ Running
@@ -77,7 +78,8 @@ StopsFrom plan now world files pairs room cause Heard written after =
     → (Heard → PageIs plan o now before written)
     → StopsNow plan o world files pairs room cause Heard before after
 
--- All that ran was waited for: where each command that ran has its end among the steps that were added, nothing failed.
+-- All that ran was waited for: where each command that ran has its end among the steps that were
+-- added, nothing failed.
 pub record WaitsFor {B : Type 0} (old new : Runs B) : Type 0 where
   pub late : List Told
   pub steps_are : new.steps ≡ old.steps ++ late

@@ -3,9 +3,9 @@ use crate::tables::{Fingerprints, Flags, Logs};
 use run_core::Core;
 use run_plan::Reports;
 
-/// What a run keeps of its tasks: how far each is, what is to be said of it, its log until that was said, whether it and
-/// all its ancestors came to a good end, the fingerprint of its key where it was looked up, and how many tasks were shown,
-/// in the order of the plan.
+/// What a run keeps of its tasks: how far each is, what is to be said of it, its log until that
+/// was said, whether it and all its ancestors came to a good end, the fingerprint of its key where
+/// it was looked up, and how many tasks were shown, in the order of the plan.
 #[derive(Drop)]
 pub struct Board {
     pub core: Core,

@@ -16,8 +16,8 @@ ghost use Rattle.run_plan.specs.Pages.{digits_of};
 ghost use Rattle.run_plan.specs.Plans.{IsValidPlan, bypasses};
 ghost use Rattle.run_plan.specs.StoryLaws.{Stands};
 ghost use Rattle.task_devices.specs.Devices.{OnlyAt};
-ghost use Rattle.task_devices.specs.Stops.{faults_of, StopsBy};
-ghost use Rattle.runner.specs.Answers.{LeavesSafe};
+ghost use Rattle.task_devices.specs.Stops.{StopsBy};
+ghost use Rattle.runner.specs.Answers.{LeavesSafe, faults_in};
 ghost use Rattle.runner.specs.Boards.{IsBoard, IsKnown, IsMove};
 ghost use Rattle.runner.specs.Costs.{Spends, SpendsAtMost};
 ghost use Rattle.runner.specs.Ends.{IsKeptOf, MayBeKeptOf, with_log};
@@ -51,7 +51,8 @@ fn mark_of(bypassed: bool) -> Mark
     if bypassed { Mark::Bypass } else { Mark::Miss }
 }
 
-// Writes the log file of an end, keeps its result where it is to be put, and answers what is to be said of it.
+// Writes the log file of an end, keeps its result where it is to be put, and answers what is to be
+// said of it.
 fn settle<W: Spawner, C: Cache>(
     alloc: Global,
     plan: &Plan,
@@ -94,8 +95,8 @@ fn settle<W: Spawner, C: Cache>(
     ensures cache { CacheGoes C.tells C.state C.moment C.left C.says cache.old cache.new }
     ensures whole { OnOk result (IsTrue (C.state cache.new).whole) }
     ensures cause { StopsBy
-        (faults_of (W.state world.old).faults (C.state cache.old).faults (W.runs world.old).faults 0)
-        (faults_of (W.state world.new).faults (C.state cache.new).faults (W.runs world.new).faults 0)
+        (faults_in (W.state world.old) (C.state cache.old) (W.runs world.old) 0)
+        (faults_in (W.state world.new) (C.state cache.new) (W.runs world.new) 0)
         result }
 {
     keep_log(alloc, plan, ended.place, ended.log.as_slice(), world)?;
@@ -148,8 +149,8 @@ pub fn finish<W: Spawner, C: Cache>(
     ensures spent { W.tells → C.tells → (W.runs world.new).steps ≡ (W.runs world.old).steps
         → SpendsAtMost plan.now C.state C.cost (states board.old.core) cache.old cache.new }
     ensures cause { StopsBy
-        (faults_of (W.state world.old).faults (C.state cache.old).faults (W.runs world.old).faults 0)
-        (faults_of (W.state world.new).faults (C.state cache.new).faults (W.runs world.new).faults 0)
+        (faults_in (W.state world.old) (C.state cache.old) (W.runs world.old) 0)
+        (faults_in (W.state world.new) (C.state cache.new) (W.runs world.new) 0)
         result }
 {
     story_law();

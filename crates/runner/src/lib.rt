@@ -1,8 +1,10 @@
-//! A run of a plan over its devices: tasks are looked up in the cache and replayed, or their commands started and waited
-//! for, as many at once as the plan says; results are put into the cache, and the page is printed as it comes.
+//! A run of a plan over its devices: tasks are looked up in the cache and replayed, or their
+//! commands started and waited for, as many at once as the plan says; results are put into the
+//! cache, and the page is printed as it comes.
 //!
-//! `specs/Answers` has what `run` says beside what a plan's run is to leave; the other files of `specs/` say how its
-//! tables go with what runs, how far it is, and what it leaves where it stops.
+//! `specs/Answers` has what `run` says beside what a plan's run is to leave; the other files of
+//! `specs/` say how its tables go with what runs, how far it is, and what it leaves where it
+//! stops.
 #![tactic(auto)]
 
 mod board;

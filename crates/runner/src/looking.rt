@@ -14,7 +14,8 @@ ghost use Rattle.run_plan.specs.Answers.{SameElsewhere};
 ghost use Rattle.run_plan.specs.Pages.{digits_of};
 ghost use Rattle.run_plan.specs.Plans.{IsValidPlan, bypasses};
 ghost use Rattle.task_devices.specs.Devices.{IsFree, OnlyAt};
-ghost use Rattle.task_devices.specs.Stops.{faults_of, StopsBy};
+ghost use Rattle.task_devices.specs.Stops.{StopsBy};
+ghost use Rattle.runner.specs.Answers.{faults_in};
 ghost use Rattle.runner.specs.Boards.{IsBoard, IsMove};
 ghost use Rattle.runner.specs.Costs.{Spends, SpendsAtMost};
 ghost use Rattle.runner.specs.Halting.{HaltsFrom};
@@ -30,7 +31,8 @@ use spawn_dev::Spawner;
 use std::alloc::Global;
 use task_devices::{RunErr, keep_log, look_up, put_back};
 
-// Puts a found result back: the task's files and its log file. It answers the digits of the fingerprint and the log.
+// Puts a found result back: the task's files and its log file. It answers the digits of the
+// fingerprint and the log.
 fn replay<W: Spawner, C: Cache>(
     alloc: Global,
     plan: &Plan,
@@ -43,7 +45,8 @@ fn replay<W: Spawner, C: Cache>(
     requires place { place < length plan.now.listing.parts }
     requires key { keys.text_of key ≡ key_of plan.now.listing place }
     requires free { IsFree plan.now place (W.state world.old).held }
-    requires log_free { (W.state world.old).held (log_path (part_at plan.now.listing place)) ≡ false }
+    requires log_free { (W.state world.old).held
+        (log_path (part_at plan.now.listing place)) ≡ false }
     requires whole { IsTrue (C.state cache.old).whole }
     requires stands { C.stands cache.old hit.now }
     requires owns { IsTrue (owns_paths (part_at plan.now.listing place).outs hit.now) }
@@ -62,8 +65,8 @@ fn replay<W: Spawner, C: Cache>(
     ensures probes { (C.state cache.new).probes ≤ (C.state cache.old).probes + span_count hit.now }
     ensures whole { OnOk result (IsTrue (C.state cache.new).whole) }
     ensures cause { StopsBy
-        (faults_of (W.state world.old).faults (C.state cache.old).faults (W.runs world.old).faults 0)
-        (faults_of (W.state world.new).faults (C.state cache.new).faults (W.runs world.new).faults 0)
+        (faults_in (W.state world.old) (C.state cache.old) (W.runs world.old) 0)
+        (faults_in (W.state world.new) (C.state cache.new) (W.runs world.new) 0)
         result }
 {
     let log = put_back(alloc, plan, place, hit, world, cache)?;
@@ -109,8 +112,8 @@ fn ask<W: Spawner, C: Cache>(
     ensures spent { C.tells → SpendsAtMost plan.now C.state C.cost (states board.old.core)
         cache.old cache.new }
     ensures cause { StopsBy
-        (faults_of (W.state world.old).faults (C.state cache.old).faults (W.runs world.old).faults 0)
-        (faults_of (W.state world.new).faults (C.state cache.new).faults (W.runs world.new).faults 0)
+        (faults_in (W.state world.old) (C.state cache.old) (W.runs world.old) 0)
+        (faults_in (W.state world.new) (C.state cache.new) (W.runs world.new) 0)
         result }
 {
     story_law();
@@ -130,7 +133,8 @@ fn ask<W: Spawner, C: Cache>(
     }
 }
 
-/// Looks a task up. One without a script is passed over, one that is found is replayed, and another one is to run.
+/// Looks a task up. One without a script is passed over, one that is found is replayed, and
+/// another one is to run.
 pub fn look<W: Spawner, C: Cache>(
     alloc: Global,
     plan: &Plan,
@@ -165,8 +169,8 @@ pub fn look<W: Spawner, C: Cache>(
     ensures spent { C.tells → SpendsAtMost plan.now C.state C.cost (states board.old.core)
         cache.old cache.new }
     ensures cause { StopsBy
-        (faults_of (W.state world.old).faults (C.state cache.old).faults (W.runs world.old).faults 0)
-        (faults_of (W.state world.new).faults (C.state cache.new).faults (W.runs world.new).faults 0)
+        (faults_in (W.state world.old) (C.state cache.old) (W.runs world.old) 0)
+        (faults_in (W.state world.new) (C.state cache.new) (W.runs world.new) 0)
         result }
 {
     story_law();

@@ -154,7 +154,8 @@ impl Board {
         self.core.started(place);
     }
 
-    /// Takes the end of a task's command, with whether its ancestors came to a good end, and what is to be said of it.
+    /// Takes the end of a task's command, with whether its ancestors came to a good end, and what
+    /// is to be said of it.
     pub fn end(&mut self, plan: &Plan, ended: Ended, sound: bool, report: Report)
         requires plan { IsValidPlan plan.now }
         requires place { ended.place < length plan.now.listing.parts }

@@ -4,8 +4,8 @@ ghost use Rattle.run_core.specs.Core.{states};
 ghost use Rattle.run_plan.specs.Openings.{Opening};
 ghost use Rattle.run_plan.specs.Plans.{IsValidPlan};
 ghost use Rattle.run_plan.specs.StoryLaws.{Stands};
-ghost use Rattle.task_devices.specs.Stops.{faults_of, StopsBy};
-ghost use Rattle.runner.specs.Answers.{LeavesSafe, cause_of};
+ghost use Rattle.task_devices.specs.Stops.{StopsBy};
+ghost use Rattle.runner.specs.Answers.{LeavesSafe, cause_of, faults_in};
 ghost use Rattle.runner.specs.Boards.{IsBoard, IsOver, IsRound, IsUpToDate};
 ghost use Rattle.runner.specs.Costs.{Spends, SpendsAtMost};
 ghost use Rattle.runner.specs.Halting.{CacheGoes, StopsFrom, WorldGoes};
@@ -62,10 +62,9 @@ fn round<W: Spawner, C: Cache, K: Sink>(
     ensures spent { W.tells → C.tells → (W.runs world.new).steps ≡ (W.runs world.old).steps
         → SpendsAtMost plan.now C.state C.cost (states board.old.core) cache.old cache.new }
     ensures cause { StopsBy
-        (faults_of (W.state world.old).faults (C.state cache.old).faults (W.runs world.old).faults
-        (K.faults out.old))
-        (faults_of (W.state world.new).faults (C.state cache.new).faults (W.runs world.new).faults
-        (K.faults out.new)) result }
+        (faults_in (W.state world.old) (C.state cache.old) (W.runs world.old) (K.faults out.old))
+        (faults_in (W.state world.new) (C.state cache.new) (W.runs world.new) (K.faults out.new))
+        result }
 {
     story_law();
     halt_law();
@@ -112,10 +111,9 @@ pub fn rounds<W: Spawner, C: Cache, K: Sink>(
     ensures spent { W.tells → C.tells → (W.runs world.new).steps ≡ (W.runs world.old).steps
         → SpendsAtMost plan.now C.state C.cost (states board.old.core) cache.old cache.new }
     ensures cause { StopsBy
-        (faults_of (W.state world.old).faults (C.state cache.old).faults (W.runs world.old).faults
-        (K.faults out.old))
-        (faults_of (W.state world.new).faults (C.state cache.new).faults (W.runs world.new).faults
-        (K.faults out.new)) result }
+        (faults_in (W.state world.old) (C.state cache.old) (W.runs world.old) (K.faults out.old))
+        (faults_in (W.state world.new) (C.state cache.new) (W.runs world.new) (K.faults out.new))
+        result }
 {
     halt_law();
     let mut more = true;

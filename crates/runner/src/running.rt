@@ -7,8 +7,8 @@ ghost use Rattle.run_plan.specs.Costs.{look_up_cost};
 ghost use Rattle.run_plan.specs.Openings.{setting_of, HoldsInputs};
 ghost use Rattle.run_plan.specs.Plans.{IsValidPlan};
 ghost use Rattle.spawn_dev.specs.Spawn.{IsIdle};
-ghost use Rattle.task_devices.specs.Stops.{faults_of, StopsBy, EndsBy};
-ghost use Rattle.runner.specs.Answers.{AllEnd, Grows, LeavesFurther, LeavesSafe, cause_of, is_start_fault, opening_of};
+ghost use Rattle.task_devices.specs.Stops.{StopsBy, EndsBy};
+ghost use Rattle.runner.specs.Answers.{AllEnd, Grows, LeavesFurther, LeavesSafe, cause_of, is_start_fault, opening_of, faults_in};
 ghost use Rattle.runner.specs.Halting.{CacheGoes, StopsNow, WorldGoes};
 
 use crate::board::Board;
@@ -59,10 +59,9 @@ fn run_through<W: Spawner, C: Cache, K: Sink>(
         → (C.state cache.new).probes
         ≤ (C.state cache.old).probes + look_up_cost (C.cost cache.old) plan.now }
     ensures cause { StopsBy
-        (faults_of (W.state world.old).faults (C.state cache.old).faults (W.runs world.old).faults
-        (K.faults out.old))
-        (faults_of (W.state world.new).faults (C.state cache.new).faults (W.runs world.new).faults
-        (K.faults out.new)) result }
+        (faults_in (W.state world.old) (C.state cache.old) (W.runs world.old) (K.faults out.old))
+        (faults_in (W.state world.new) (C.state cache.new) (W.runs world.new) (K.faults out.new))
+        result }
 {
     story_law();
     halt_law();
@@ -72,16 +71,19 @@ fn run_through<W: Spawner, C: Cache, K: Sink>(
     Ok(board.reports.worst())
 }
 
-/// Runs the plan. Tasks are looked up in the cache and replayed, or their commands started and waited for, as many at once
-/// as the plan's width says; good results are put into the cache; the block of a task is printed as soon as no earlier task
-/// is unsettled, and the summary at the end. The answer is the greatest status, and 0 where no task failed.
+/// Runs the plan. Tasks are looked up in the cache and replayed, or their commands started and
+/// waited for, as many at once as the plan's width says; good results are put into the cache; the
+/// block of a task is printed as soon as no earlier task is unsettled, and the summary at the end.
+/// The answer is the greatest status, and 0 where no task failed.
 ///
-/// Nothing may run in the world, the cache has to be whole, and where the world tells its files they have to hold the
-/// listing's bytes at its inputs. Of several faults the first is answered, after all running commands were waited for;
-/// the page then has whole blocks in the order of the plan, and where the output failed some first part of what follows.
+/// Nothing may run in the world, the cache has to be whole, and where the world tells its files
+/// they have to hold the listing's bytes at its inputs. Of several faults the first is answered,
+/// after all running commands were waited for; the page then has whole blocks in the order of the
+/// plan, and where the output failed some first part of what follows.
 ///
-/// The key of a task is made when it is looked up, and once more when its command has ended; it is not kept meanwhile,
-/// but its fingerprint is. Beyond that, a task costs about as much as its closure has bytes.
+/// The key of a task is made when it is looked up, and once more when its command has ended; it is
+/// not kept meanwhile, but its fingerprint is. Beyond that, a task costs about as much as its
+/// closure has bytes.
 pub fn run<W: Spawner, C: Cache, K: Sink>(
     alloc: Global,
     plan: &Plan,
@@ -112,10 +114,9 @@ pub fn run<W: Spawner, C: Cache, K: Sink>(
         → (C.state cache.new).probes
         ≤ (C.state cache.old).probes + look_up_cost (C.cost cache.old) plan.now }
     ensures cause { EndsBy
-        (faults_of (W.state world.old).faults (C.state cache.old).faults (W.runs world.old).faults
-        (K.faults out.old))
-        (faults_of (W.state world.new).faults (C.state cache.new).faults (W.runs world.new).faults
-        (K.faults out.new)) result }
+        (faults_in (W.state world.old) (C.state cache.old) (W.runs world.old) (K.faults out.old))
+        (faults_in (W.state world.new) (C.state cache.new) (W.runs world.new) (K.faults out.new))
+        result }
 
     // A run that came to its end.
     ensures whole { OnOk result (IsTrue (C.state cache.new).whole) }

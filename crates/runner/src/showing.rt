@@ -30,7 +30,8 @@ fn put_block<K: Sink>(alloc: Global, plan: &Plan, board: &Board, out: &mut K) ->
     ensures torn { K.tells → IfErr result (λ e. IsCut (is_sink_fault e)
         (next_text plan.now board.now) (K.written out.old) (K.written out.new)) }
     ensures cause { StopsBy (faults_of 0 0 0 (K.faults out.old))
-        (faults_of 0 0 0 (K.faults out.new)) result }
+        (faults_of 0 0 0 (K.faults out.new))
+        result }
 {
     let place = board.shown;
     match board.reports.at(place) {
@@ -66,7 +67,8 @@ fn show_one<K: Sink>(
         → TearsAt plan.now (with_board now board.old) (cause_of e)
         (K.written out.old) (K.written out.new)) }
     ensures cause { StopsBy (faults_of 0 0 0 (K.faults out.old))
-        (faults_of 0 0 0 (K.faults out.new)) result }
+        (faults_of 0 0 0 (K.faults out.new))
+        result }
 {
     story_law();
     put_block(alloc, plan, board, out)?;
@@ -114,7 +116,8 @@ pub fn show_settled<K: Sink>(
         → TearsAt plan.now (with_board now board.old) (cause_of e)
         (K.written out.old) (K.written out.new)) }
     ensures cause { StopsBy (faults_of 0 0 0 (K.faults out.old))
-        (faults_of 0 0 0 (K.faults out.new)) result }
+        (faults_of 0 0 0 (K.faults out.new))
+        result }
 {
     'settled: while can_show(plan, board) {
         show_one(alloc, plan, board, out)?;
@@ -145,7 +148,8 @@ fn show_rest<K: Sink>(
         → TearsAt plan.now (with_board now board.old) (cause_of e)
         (K.written out.old) (K.written out.new)) }
     ensures cause { StopsBy (faults_of 0 0 0 (K.faults out.old))
-        (faults_of 0 0 0 (K.faults out.new)) result }
+        (faults_of 0 0 0 (K.faults out.new))
+        result }
 {
     'rest: while board.shown < plan.size() {
         show_one(alloc, plan, board, out)?;
@@ -176,7 +180,8 @@ pub fn conclude<K: Sink>(
         → TearsAt plan.now (with_board now board.old) (cause_of e)
         (K.written out.old) (K.written out.new)) }
     ensures cause { StopsBy (faults_of 0 0 0 (K.faults out.old))
-        (faults_of 0 0 0 (K.faults out.new)) result }
+        (faults_of 0 0 0 (K.faults out.new))
+        result }
 {
     story_law();
     show_rest(alloc, plan, board, out)?;

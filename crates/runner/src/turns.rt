@@ -4,8 +4,8 @@ ghost use Rattle.run_core.specs.Core.{states};
 ghost use Rattle.run_plan.specs.Openings.{Opening};
 ghost use Rattle.run_plan.specs.Plans.{IsValidPlan};
 ghost use Rattle.run_plan.specs.StoryLaws.{Stands};
-ghost use Rattle.task_devices.specs.Stops.{faults_of, StopsBy};
-ghost use Rattle.runner.specs.Answers.{LeavesSafe};
+ghost use Rattle.task_devices.specs.Stops.{StopsBy};
+ghost use Rattle.runner.specs.Answers.{LeavesSafe, faults_in};
 ghost use Rattle.runner.specs.Boards.{IsBoard, IsTurn};
 ghost use Rattle.runner.specs.Costs.{Spends, SpendsAtMost};
 ghost use Rattle.runner.specs.Halting.{CacheGoes, HaltsFrom, WorldGoes};
@@ -23,7 +23,8 @@ use spawn_dev::Spawner;
 use std::alloc::Global;
 use task_devices::RunErr;
 
-/// One turn of a run, as the scheduler says: a look-up, a start or an end. It answers whether there was one.
+/// One turn of a run, as the scheduler says: a look-up, a start or an end. It answers whether
+/// there was one.
 pub fn turn<W: Spawner, C: Cache>(
     alloc: Global,
     plan: &Plan,
@@ -58,8 +59,8 @@ pub fn turn<W: Spawner, C: Cache>(
     ensures spent { W.tells → C.tells → (W.runs world.new).steps ≡ (W.runs world.old).steps
         → SpendsAtMost plan.now C.state C.cost (states board.old.core) cache.old cache.new }
     ensures cause { StopsBy
-        (faults_of (W.state world.old).faults (C.state cache.old).faults (W.runs world.old).faults 0)
-        (faults_of (W.state world.new).faults (C.state cache.new).faults (W.runs world.new).faults 0)
+        (faults_in (W.state world.old) (C.state cache.old) (W.runs world.old) 0)
+        (faults_in (W.state world.new) (C.state cache.new) (W.runs world.new) 0)
         result }
 {
     halt_law();

@@ -28,9 +28,9 @@ returns-in_err-keep_log-clause-left g c told store =
     × MayBeKeptOf c.args.plan.now c.args.ended.now c.args.sound
     (g.W.Tree.state c.args.world.now).files cache.pairs pairs)
     (λ image left. (
-    cache.pairs,
-    g.met.C.Cache.at_rest c.args.cache.now image store c.requires.whole left,
-    inl refl,
+      cache.pairs,
+      g.met.C.Cache.at_rest c.args.cache.now image store c.requires.whole left,
+      inl refl,
     ))
 
 pub returns-in_err-keep_log-clause-cache : goal.returns-in_err-keep_log-clause-cache
@@ -47,9 +47,9 @@ returns-in_err-text-clause-left g c told store =
     × MayBeKeptOf c.args.plan.now c.args.ended.now c.args.sound
     (g.W.Tree.state c.args.world.now).files cache.pairs pairs)
     (λ image left. (
-    cache.pairs,
-    g.met.C.Cache.at_rest c.args.cache.now image store c.requires.whole left,
-    inl refl,
+      cache.pairs,
+      g.met.C.Cache.at_rest c.args.cache.now image store c.requires.whole left,
+      inl refl,
     ))
 
 pub returns-in_err-text-clause-cache : goal.returns-in_err-text-clause-cache
@@ -66,9 +66,9 @@ returns-in_err-digits-clause-left g c told store =
     × MayBeKeptOf c.args.plan.now c.args.ended.now c.args.sound
     (g.W.Tree.state c.args.world.now).files cache.pairs pairs)
     (λ image left. (
-    cache.pairs,
-    g.met.C.Cache.at_rest c.args.cache.now image store c.requires.whole left,
-    inl refl,
+      cache.pairs,
+      g.met.C.Cache.at_rest c.args.cache.now image store c.requires.whole left,
+      inl refl,
     ))
 
 pub returns-in_err-digits-clause-cache : goal.returns-in_err-digits-clause-cache
@@ -101,8 +101,12 @@ returns-in_err-note-clause-left g c told store =
     (λ image. (pairs : List Pair) × (g.C.Cache.says cache.base image ≡ Some pairs)
     × MayBeKeptOf plan ended c.args.sound files cache.pairs pairs)
     (c.in_err-note.ensures.left told store)
-    (λ image is. (is.0, is.1, may-as plan ended c.args.sound files logged
-    (text_of c.key_with-key.result) written key cache.pairs is.0 is.2))
+    (λ image is. (
+      is.0,
+      is.1,
+      may-as plan ended c.args.sound files logged
+          (text_of c.key_with-key.result) written key cache.pairs is.0 is.2,
+    ))
 
 pub returns-in_err-note-clause-cache : goal.returns-in_err-note-clause-cache
 returns-in_err-note-clause-cache g c = record {
@@ -135,8 +139,12 @@ returns-clause-left g c told store =
     (λ image. (pairs : List Pair) × (g.C.Cache.says cache.base image ≡ Some pairs)
     × MayBeKeptOf plan ended c.args.sound files cache.pairs pairs)
     (c.in_ok-note.ensures.left told store)
-    (λ image is. (is.0, is.1, may-as plan ended c.args.sound files logged
-    (text_of c.key_with-key.result) written key cache.pairs is.0 is.2))
+    (λ image is. (
+      is.0,
+      is.1,
+      may-as plan ended c.args.sound files logged
+          (text_of c.key_with-key.result) written key cache.pairs is.0 is.2,
+    ))
 
 pub returns-clause-cache : goal.returns-clause-cache
 returns-clause-cache g c = record {
@@ -175,7 +183,10 @@ returns-clause-report g c =
     let digits = c.in_ok-digits.ensures.digits
     ∙ ap printed (c.print.ensures ∙ ap sha256 key) in
     λ i. record {
-      mark = mark i; digits = digits i; status = c.args.ended.now.status; note = c.in_ok-note.note;
+      mark = mark i;
+      digits = digits i;
+      status = c.args.ended.now.status;
+      note = c.in_ok-note.note;
     }
 
 pub returns-clause-kept : goal.returns-clause-kept

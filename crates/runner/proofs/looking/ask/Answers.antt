@@ -20,13 +20,14 @@ use Rattle.run_plan.specs.declared.report.Report.{Report}
 use Rattle.run_plan.specs.Pages.{digits_of}
 use Rattle.runner.specs.Costs.{still_costs}
 use Rattle.runner.specs.Progress.{now_of}
-use Rattle.runner.proofs.BoardFacts.{by-plan, look-waits}
+use Rattle.runner.proofs.TurnFacts.{board-next, board-waits}
 use Rattle.runner.proofs.CostFacts.{costs-same, look-less, waiting-costs}
 use Rattle.runner.proofs.FileFacts.{undone-only, undone-same}
 use Rattle.runner.proofs.HaltFacts.{halts-here}
 use Rattle.runner.proofs.HeldFacts.{free-of, log-free}
 use Rattle.runner.proofs.StoryFacts.{become}
 use Rattle.runner.proofs.WorldFacts.{step-same, step-looked}
+mod Costs
 use Rattle.runner.proofs.looking.ask.Goals as goal
 
 pub returns-in_err-text-clause-halts : goal.returns-in_err-text-clause-halts
@@ -54,28 +55,13 @@ returns-in_err-look_up-clause-halts g c told store =
     (undone-same c.args.plan.now (states c.args.board.now.core) tree.files tree.files refl)
     (reads.pairs store) reads.keeps.room)
 
-pub returns-in_err-look_up-clause-spent : goal.returns-in_err-look_up-clause-spent
-returns-in_err-look_up-clause-spent g c store =
-    let plan = c.args.plan.now in
-    let t = c.args.place in
-    let st = states c.args.board.now.core in
-    let is = by-plan plan (rules c.args.board.now.core) st (turn.Lookup t)
-    c.requires.board.rules_are c.requires.next in
-    let cost = g.C.Cache.cost c.args.cache.now in
-    let key = ap cost (c.new-key.ensures ∙ c.as_slice.ensures ∙ c.in_ok-text.ensures.key) in
-    let all = waiting-costs cost plan st t c.requires.place (look-waits plan st t is)
-    c.requires.script c.requires.asks in
-    let probes = c.in_err-look_up.ensures.probes store in
-    omega (arith, probes, key, all)
-
 pub returns-in-None-clause-steps : goal.returns-in-None-clause-steps
 returns-in-None-clause-steps g c =
     let plan = c.args.plan.now in
     let st = states c.args.board.now.core in
-    let is = by-plan plan (rules c.args.board.now.core) st (turn.Lookup c.args.place)
-    c.requires.board.rules_are c.requires.next in
+    let waits = board-waits plan c.args.board.now c.requires.board c.args.place c.requires.next in
     step-looked plan c.requires.plan st (g.W.Spawner.runs c.args.world.now) c.args.place Missed
-    (states c.miss.new.self.core) c.miss.ensures.states (look-waits plan st c.args.place is) refl
+    (states c.miss.new.self.core) c.miss.ensures.states waits refl
     (λ h. c.requires.script) c.requires.steps
 
 pub returns-in-None-clause-stands : goal.returns-in-None-clause-stands
@@ -83,8 +69,7 @@ returns-in-None-clause-stands g c told store o stands =
     let plan = c.args.plan.now in
     let t = c.args.place in
     let st = states c.args.board.now.core in
-    let is = by-plan plan (rules c.args.board.now.core) st (turn.Lookup t)
-    c.requires.board.rules_are c.requires.next in
+    let is = board-next plan c.args.board.now c.requires.board (turn.Lookup t) c.requires.next in
     let world = g.W.Spawner.runs c.args.world.now in
     let tree = g.W.Tree.state c.args.world.now in
     let cache = g.C.Cache.state c.args.cache.now in
@@ -103,46 +88,11 @@ returns-in-None-clause-stands g c told store o stands =
     (sym c.miss.ensures.states) refl refl refl refl (sym (look.reads.pairs store)) refl
     (sym c.miss.ensures.reports) (sym c.miss.ensures.logs) (sym c.miss.ensures.shown) story
 
-pub returns-in-None-clause-spends : goal.returns-in-None-clause-spends
-returns-in-None-clause-spends g c store =
-    let plan = c.args.plan.now in
-    let t = c.args.place in
-    let st = states c.args.board.now.core in
-    let later = states c.miss.new.self.core in
-    let is = by-plan plan (rules c.args.board.now.core) st (turn.Lookup t)
-    c.requires.board.rules_are c.requires.next in
-    let cost = g.C.Cache.cost c.args.cache.now in
-    let key = ap cost (c.new-key.ensures ∙ c.as_slice.ensures ∙ c.in_ok-text.ensures.key) in
-    let less = subst (λ s. still_costs cost plan s + cost (key_of plan.listing t)
-    ≤ still_costs cost plan st) (sym c.miss.ensures.states)
-    (look-less cost plan st t Missed c.requires.place (look-waits plan st t is) refl
-    c.requires.script c.requires.asks) in
-    let same = costs-same cost (g.C.Cache.cost c.look_up.new.cache) plan later
-    (c.in_ok-look_up.ensures.reads.cost_same store) in
-    let probes = c.in_ok-look_up.ensures.probes store in
-    omega (arith, probes, key, less, same)
-
-pub returns-in-None-clause-spent : goal.returns-in-None-clause-spent
-returns-in-None-clause-spent g c store =
-    let plan = c.args.plan.now in
-    let t = c.args.place in
-    let st = states c.args.board.now.core in
-    let is = by-plan plan (rules c.args.board.now.core) st (turn.Lookup t)
-    c.requires.board.rules_are c.requires.next in
-    let cost = g.C.Cache.cost c.args.cache.now in
-    let key = ap cost (c.new-key.ensures ∙ c.as_slice.ensures ∙ c.in_ok-text.ensures.key) in
-    let all = waiting-costs cost plan st t c.requires.place (look-waits plan st t is)
-    c.requires.script c.requires.asks in
-    let probes = c.in_ok-look_up.ensures.probes store in
-    omega (arith, probes, key, all)
-
 pub replay-requires-clause-free : goal.replay-requires-clause-free
 replay-requires-clause-free g c =
     let plan = c.args.plan.now in
     let st = states c.args.board.now.core in
-    let is = by-plan plan (rules c.args.board.now.core) st (turn.Lookup c.args.place)
-    c.requires.board.rules_are c.requires.next in
-    let waits = look-waits plan st c.args.place is in
+    let waits = board-waits plan c.args.board.now c.requires.board c.args.place c.requires.next in
     free-of plan c.requires.plan st (g.W.Spawner.runs c.args.world.now) c.requires.steps.ours
     (g.W.Tree.state c.args.world.now).held (g.met.W.Spawner.held_by_running c.args.world.now)
     c.args.place c.requires.script (c.requires.steps.live_is c.args.place ∙ ap runs waits)
@@ -159,8 +109,7 @@ returns-in_err-digits-in-Some-clause-halts g c told store =
     let plan = c.args.plan.now in
     let t = c.args.place in
     let st = states c.args.board.now.core in
-    let is = by-plan plan (rules c.args.board.now.core) st (turn.Lookup t)
-    c.requires.board.rules_are c.requires.next in
+    let waits = board-waits plan c.args.board.now c.requires.board t c.requires.next in
     let tree = g.W.Tree.state c.args.world.now in
     let files = (g.W.Tree.state c.replay.new.world).files in
     let cache = g.C.Cache.state c.args.cache.now in
@@ -173,24 +122,9 @@ returns-in_err-digits-in-Some-clause-halts g c told store =
     (g.W.Spawner.runs c.args.world.now) tree cache.pairs cache.room c.requires.steps
     (g.W.Spawner.runs c.replay.new.world) files new.pairs new.room replay.runs
     (undone-only plan st t tree.files files c.requires.script
-    (ap is_done (look-waits plan st t is)) (replay.others told))
+    (ap is_done waits) (replay.others told))
     (replay.reads.pairs store ∙ first.pairs store)
     (omega (arith, first.keeps.room, replay.reads.keeps.room)))
-
-pub returns-in_err-digits-in-Some-clause-spent : goal.returns-in_err-digits-in-Some-clause-spent
-returns-in_err-digits-in-Some-clause-spent g c store =
-    let plan = c.args.plan.now in
-    let t = c.args.place in
-    let st = states c.args.board.now.core in
-    let is = by-plan plan (rules c.args.board.now.core) st (turn.Lookup t)
-    c.requires.board.rules_are c.requires.next in
-    let cost = g.C.Cache.cost c.args.cache.now in
-    let key = ap cost (c.new-key.ensures ∙ c.as_slice.ensures ∙ c.in_ok-text.ensures.key) in
-    let all = waiting-costs cost plan st t c.requires.place (look-waits plan st t is)
-    c.requires.script c.requires.asks in
-    let spans = rw c.in-Some.is at (c.in_ok-look_up.ensures.spans store) in
-    let probes = c.in_err-digits-in-Some.ensures.probes in
-    omega (arith, probes, spans, key, all)
 
 pub returns-clause-steps : goal.returns-clause-steps
 returns-clause-steps g c =
@@ -198,12 +132,11 @@ returns-clause-steps g c =
     let st = states c.args.board.now.core in
     let later = states c.hit.new.self.core in
     let old = g.W.Spawner.runs c.args.world.now in
-    let is = by-plan plan (rules c.args.board.now.core) st (turn.Lookup c.args.place)
-    c.requires.board.rules_are c.requires.next in
+    let waits = board-waits plan c.args.board.now c.requires.board c.args.place c.requires.next in
     step-same plan c.requires.plan later old (g.W.Spawner.runs c.replay.new.world)
     c.in_ok-digits-in-Some.ensures.runs
     (step-looked plan c.requires.plan st old c.args.place Passed later c.hit.ensures.states
-    (look-waits plan st c.args.place is) refl (λ h. absurd (false≢true h)) c.requires.steps)
+    waits refl (λ h. absurd (false≢true h)) c.requires.steps)
 
 pub returns-clause-stands : goal.returns-clause-stands
 returns-clause-stands g c told store o stands =
@@ -211,8 +144,7 @@ returns-clause-stands g c told store o stands =
     let t = c.args.place in
     let part = part_at plan.listing t in
     let st = states c.args.board.now.core in
-    let is = by-plan plan (rules c.args.board.now.core) st (turn.Lookup t)
-    c.requires.board.rules_are c.requires.next in
+    let is = board-next plan c.args.board.now c.requires.board (turn.Lookup t) c.requires.next in
     let old = g.W.Spawner.runs c.args.world.now in
     let new = g.W.Spawner.runs c.replay.new.world in
     let tree = g.W.Tree.state c.args.world.now in
@@ -228,7 +160,10 @@ returns-clause-stands g c told store o stands =
     sym (look.found store ∙ (λ i. found artifact_in (key i) (outs i).outs cache.pairs))
     ∙ ap (found_as (g.C.Cache.shows c.look_up.new.cache)) c.in-Some.is in
     let report : Report = record {
-      mark = printed_mark.Hit; digits = digits_of plan t; status = 0; note = printed_note.Stored;
+      mark = printed_mark.Hit;
+      digits = digits_of plan t;
+      status = 0;
+      note = printed_note.Stored;
     } in
     let story = c.story_law.ensures.hit plan o now t last.room a stands is c.requires.script
     (omega (arith, look.reads.keeps.room, replay.reads.keeps.room)) c.requires.asks some in
@@ -246,43 +181,28 @@ returns-clause-stands g c told store o stands =
     (sym (replay.replayed told store)) (sym (replay.reads.pairs store ∙ look.reads.pairs store))
     refl
     (sym (c.hit.ensures.reports ∙ (λ i. put_at now.reports t (Some (record {
-      mark = printed_mark.Hit; digits = replay.digits i; status = 0; note = printed_note.Stored;
+      mark = printed_mark.Hit;
+      digits = replay.digits i;
+      status = 0;
+      note = printed_note.Stored;
     })))))
     (sym (c.hit.ensures.logs ∙ (λ i. put_at now.logs t (replay.log store i))))
     (sym c.hit.ensures.shown) story
 
+pub returns-in_err-look_up-clause-spent : goal.returns-in_err-look_up-clause-spent
+returns-in_err-look_up-clause-spent = Costs.returns-in_err-look_up-clause-spent
+
+pub returns-in-None-clause-spends : goal.returns-in-None-clause-spends
+returns-in-None-clause-spends = Costs.returns-in-None-clause-spends
+
+pub returns-in-None-clause-spent : goal.returns-in-None-clause-spent
+returns-in-None-clause-spent = Costs.returns-in-None-clause-spent
+
+pub returns-in_err-digits-in-Some-clause-spent : goal.returns-in_err-digits-in-Some-clause-spent
+returns-in_err-digits-in-Some-clause-spent = Costs.returns-in_err-digits-in-Some-clause-spent
+
 pub returns-clause-spends : goal.returns-clause-spends
-returns-clause-spends g c store =
-    let plan = c.args.plan.now in
-    let t = c.args.place in
-    let st = states c.args.board.now.core in
-    let later = states c.hit.new.self.core in
-    let is = by-plan plan (rules c.args.board.now.core) st (turn.Lookup t)
-    c.requires.board.rules_are c.requires.next in
-    let cost = g.C.Cache.cost c.args.cache.now in
-    let key = ap cost (c.new-key.ensures ∙ c.as_slice.ensures ∙ c.in_ok-text.ensures.key) in
-    let less = subst (λ s. still_costs cost plan s + cost (key_of plan.listing t)
-    ≤ still_costs cost plan st) (sym c.hit.ensures.states)
-    (look-less cost plan st t Passed c.requires.place (look-waits plan st t is) refl
-    c.requires.script c.requires.asks) in
-    let same = costs-same cost (g.C.Cache.cost c.replay.new.cache) plan later
-    (λ k. c.in_ok-digits-in-Some.ensures.reads.cost_same store k
-    ∙ c.in_ok-look_up.ensures.reads.cost_same store k) in
-    let spans = rw c.in-Some.is at (c.in_ok-look_up.ensures.spans store) in
-    let probes = c.in_ok-digits-in-Some.ensures.probes in
-    omega (arith, probes, spans, key, less, same)
+returns-clause-spends = Costs.returns-clause-spends
 
 pub returns-clause-spent : goal.returns-clause-spent
-returns-clause-spent g c store =
-    let plan = c.args.plan.now in
-    let t = c.args.place in
-    let st = states c.args.board.now.core in
-    let is = by-plan plan (rules c.args.board.now.core) st (turn.Lookup t)
-    c.requires.board.rules_are c.requires.next in
-    let cost = g.C.Cache.cost c.args.cache.now in
-    let key = ap cost (c.new-key.ensures ∙ c.as_slice.ensures ∙ c.in_ok-text.ensures.key) in
-    let all = waiting-costs cost plan st t c.requires.place (look-waits plan st t is)
-    c.requires.script c.requires.asks in
-    let spans = rw c.in-Some.is at (c.in_ok-look_up.ensures.spans store) in
-    let probes = c.in_ok-digits-in-Some.ensures.probes in
-    omega (arith, probes, spans, key, all)
+returns-clause-spent = Costs.returns-clause-spent

@@ -1,4 +1,4 @@
-use Rattle.std.proofs.Common.{◌≡◌, ◌≤◌, ◌∙◌, ap, sym, refl, subst, arith, inl}
+use Rattle.std.proofs.Common.{◌≤◌, ◌∙◌, sym, refl, subst, arith, inl}
 use Rattle.cache_api.specs.Calls.{reads_none}
 use Rattle.run_core.specs.declared.states.Next.TheVariants as turn
 use Rattle.run_core.specs.declared.states.State.TheVariants.{Passed, Missed}
@@ -6,7 +6,7 @@ use Rattle.run_core.specs.Core.{rules, states}
 use Rattle.run_core.specs.Machine.{put}
 use Rattle.runner.specs.Costs.{still_costs}
 use Rattle.runner.specs.Progress.{now_of}
-use Rattle.runner.proofs.BoardFacts.{by-plan, look-waits}
+use Rattle.runner.proofs.TurnFacts.{by-plan, look-waits}
 use Rattle.runner.proofs.CostFacts.{puts-less}
 use Rattle.runner.proofs.StoryFacts.{become}
 use Rattle.runner.proofs.WorldFacts.{step-looked}

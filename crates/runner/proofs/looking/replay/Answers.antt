@@ -1,9 +1,6 @@
-use Rattle.std.proofs.Common.{◌∙◌, ap, sym, arith}
-use Rattle.globs.specs.OwnedFiles.{restored}
+use Rattle.std.proofs.Common.{◌∙◌}
 use Rattle.run_laws.specs.Ancestors.{part_at}
-use Rattle.run_laws.specs.Plans.{log_path}
 use Rattle.run_laws.specs.Worlds.{logged}
-use Rattle.run_plan.specs.Pages.{digits_for}
 use Rattle.runner.proofs.FileFacts.{only-then}
 use Rattle.runner.proofs.looking.replay.Goals as goal
 

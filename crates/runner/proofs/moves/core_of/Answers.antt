@@ -2,7 +2,7 @@ use Rattle.std.proofs.Common.{◌<◌, ◌∙◌, [], sym, ap, subst, slice_inde
 use Rattle.std.specs.List.{AllByRecursion}
 use Rattle.run_core.proofs.Any.{get_or-map}
 use Rattle.run_laws.specs.Ancestors.{blank}
-use Rattle.runner.proofs.BoardFacts.{rules-are, commands-are}
+use Rattle.runner.proofs.TurnFacts.{rules-are, commands-are}
 use Rattle.runner.proofs.moves.core_of.Goals as goal
 
 pub new-requires-clause-order : goal.new-requires-clause-order

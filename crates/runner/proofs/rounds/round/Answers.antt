@@ -1,4 +1,4 @@
-use Rattle.std.proofs.Common.{◌≡◌, ◌∙◌, ap, sym, refl, subst, arith, inl}
+use Rattle.std.proofs.Common.{sym, refl, subst, arith, inl}
 use Rattle.std.proofs.lemmas.Result.{err_from_is_err_and}
 use Rattle.run_core.specs.Core.{states}
 use Rattle.run_plan.specs.Answers.{IsPrompt}

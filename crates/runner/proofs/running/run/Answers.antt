@@ -1,6 +1,5 @@
-use Rattle.std.proofs.Common.{◌≡◌, ◌∙◌, ap, sym, refl}
+use Rattle.std.proofs.Common.{◌∙◌}
 use Rattle.run_plan.specs.Stories.{notes_in}
-use Rattle.task_devices.specs.declared.error.RunErr.{RunErr}
 use Rattle.runner.specs.Answers.{opening_of}
 use Rattle.runner.proofs.CacheFacts.{safe-more}
 use Rattle.runner.proofs.DrainFacts.{ends-late, starts-calm}

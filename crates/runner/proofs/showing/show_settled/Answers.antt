@@ -1,6 +1,6 @@
 use Rattle.std.proofs.Common.{inl}
 use Rattle.std.proofs.lemmas.Result.{err_from_is_err_and}
-use Rattle.runner.proofs.PageFacts.{prompt-is, tears-back}
+use Rattle.runner.proofs.PageFacts.{tears-back}
 use Rattle.runner.proofs.showing.show_settled.Goals as goal
 
 pub returns-in_err-show_one-clause-torn : goal.returns-in_err-show_one-clause-torn

@@ -1,4 +1,4 @@
-use Rattle.std.proofs.Common.{◌≡◌, ◌∙◌, ap, sym, refl, arith, ◌++◌, ◌∷◌, []}
+use Rattle.std.proofs.Common.{◌∙◌, ap, sym, refl, arith, ◌++◌, ◌∷◌, []}
 use Rattle.std.specs.Prelude.{is_some}
 use Rattle.std.proofs.lemmas.Result.{err_from_is_err_and}
 use Rattle.globs.specs.OwnedFiles.{cleared}
@@ -12,7 +12,7 @@ use Rattle.run_laws.specs.Ancestors.{part_at}
 use Rattle.run_plan.specs.Commands.{command_of}
 use Rattle.runner.specs.Progress.{now_at}
 use Rattle.runner.specs.Running.{is_begun}
-use Rattle.runner.proofs.BoardFacts.{by-plan, start-missed}
+use Rattle.runner.proofs.TurnFacts.{board-missed, board-next}
 use Rattle.runner.proofs.CacheFacts.{grows-same}
 use Rattle.runner.proofs.FileFacts.{elsewhere-only, elsewhere-same, elsewhere-then, undone-only, undone-same, undone-then}
 use Rattle.runner.proofs.GoesFacts.{world-same, safe-steps}
@@ -21,6 +21,7 @@ use Rattle.runner.proofs.HeldFacts.{free-of, is-fresh, is-clear, reads-free, own
 use Rattle.runner.proofs.StartFacts.{others-will, own-will, own-steps}
 use Rattle.runner.proofs.StoryFacts.{become}
 use Rattle.runner.proofs.WorldFacts.{ours-refused, ours-same, step-same, step-started}
+mod Needs
 use Rattle.runner.proofs.starting.begin.Goals as goal
 
 pub returns-in_err-command-clause-halts : goal.returns-in_err-command-clause-halts
@@ -37,26 +38,13 @@ pub returns-in_err-command-clause-safe : goal.returns-in_err-command-clause-safe
 returns-in_err-command-clause-safe g c told o pairs room stands =
     c.halt_law.ensures.safe c.args.plan.now o _ stands
 
-pub clear_owned-requires-clause-free : goal.clear_owned-requires-clause-free
-clear_owned-requires-clause-free g c =
-    let plan = c.args.plan.now in
-    let t = c.args.place in
-    let st = states c.args.board.now.core in
-    let is = by-plan plan (rules c.args.board.now.core) st (turn.Start t) c.requires.board.rules_are
-    c.requires.next in
-    let missed = (start-missed plan st t is).1 in
-    free-of plan c.requires.plan st (g.W.Spawner.runs c.args.world.now) c.requires.steps.ours
-    (g.W.Tree.state c.args.world.now).held (g.met.W.Spawner.held_by_running c.args.world.now) t
-    (c.requires.steps.scripts t (ap is_begun missed)) (c.requires.steps.live_is t ∙ ap runs missed)
-
 pub returns-in_err-clear_owned-clause-world : goal.returns-in_err-clear_owned-clause-world
 returns-in_err-clear_owned-clause-world g c =
     let plan = c.args.plan.now in
     let t = c.args.place in
     let st = states c.args.board.now.core in
-    let is = by-plan plan (rules c.args.board.now.core) st (turn.Start t) c.requires.board.rules_are
-    c.requires.next in
-    let script = c.requires.steps.scripts t (ap is_begun (start-missed plan st t is).1) in
+    let m = board-missed plan c.args.board.now c.requires.board t c.requires.next in
+    let script = c.requires.steps.scripts t (ap is_begun m.1) in
     let clear = c.in_err-clear_owned.ensures in
     world-same g.W.Tree.tells plan (g.W.Spawner.runs c.args.world.now)
     (g.W.Spawner.runs c.clear_owned.new.world) (g.W.Tree.state c.args.world.now)
@@ -68,9 +56,7 @@ returns-in_err-clear_owned-clause-halts g c told =
     let plan = c.args.plan.now in
     let t = c.args.place in
     let st = states c.args.board.now.core in
-    let is = by-plan plan (rules c.args.board.now.core) st (turn.Start t) c.requires.board.rules_are
-    c.requires.next in
-    let missed = (start-missed plan st t is).1 in
+    let missed = (board-missed plan c.args.board.now c.requires.board t c.requires.next).1 in
     let clear = c.in_err-clear_owned.ensures in
     let tree = g.W.Tree.state c.args.world.now in
     let files = (g.W.Tree.state c.clear_owned.new.world).files in
@@ -89,70 +75,13 @@ returns-in_err-clear_owned-clause-safe g c told o pairs room stands =
     (ap (λ w. w.steps) c.in_err-clear_owned.ensures.runs)
     (c.halt_law.ensures.safe c.args.plan.now o _ stands)
 
-pub start-requires-clause-fresh : goal.start-requires-clause-fresh
-start-requires-clause-fresh g c =
-    let plan = c.args.plan.now in
-    let st = states c.args.board.now.core in
-    let is = by-plan plan (rules c.args.board.now.core) st (turn.Start c.args.place)
-    c.requires.board.rules_are c.requires.next in
-    let m = start-missed plan st c.args.place is in
-    let mid = g.W.Spawner.runs c.clear_owned.new.world in
-    let step = step-same plan c.requires.plan st (g.W.Spawner.runs c.args.world.now) mid
-    c.in_ok-clear_owned.ensures.runs c.requires.steps in
-    is-fresh plan c.requires.plan st c.closure_is_valid.ensures.ordered c.requires.calm mid step
-    c.args.place m.0 m.1 c.in_ok-command.command c.in_ok-command.ensures.command
-
-pub start-requires-clause-absent : goal.start-requires-clause-absent
-start-requires-clause-absent g c told =
-    let plan = c.args.plan.now in
-    let st = states c.args.board.now.core in
-    let is = by-plan plan (rules c.args.board.now.core) st (turn.Start c.args.place)
-    c.requires.board.rules_are c.requires.next in
-    let m = start-missed plan st c.args.place is in
-    let mid = g.W.Spawner.runs c.clear_owned.new.world in
-    let step = step-same plan c.requires.plan st (g.W.Spawner.runs c.args.world.now) mid
-    c.in_ok-clear_owned.ensures.runs c.requires.steps in
-    owns-nothing plan c.requires.plan st c.closure_is_valid.ensures.ordered c.requires.calm mid step
-    c.args.place m.0 m.1 c.in_ok-command.command c.in_ok-command.ensures.command
-    (g.W.Tree.state c.args.world.now).files (g.W.Tree.state c.clear_owned.new.world).files
-    (c.in_ok-clear_owned.ensures.cleared told)
-
-pub start-requires-clause-clear : goal.start-requires-clause-clear
-start-requires-clause-clear g c =
-    let plan = c.args.plan.now in
-    let st = states c.args.board.now.core in
-    let is = by-plan plan (rules c.args.board.now.core) st (turn.Start c.args.place)
-    c.requires.board.rules_are c.requires.next in
-    let m = start-missed plan st c.args.place is in
-    let mid = g.W.Spawner.runs c.clear_owned.new.world in
-    let step = step-same plan c.requires.plan st (g.W.Spawner.runs c.args.world.now) mid
-    c.in_ok-clear_owned.ensures.runs c.requires.steps in
-    is-clear plan c.requires.plan st c.closure_is_valid.ensures.ordered c.requires.calm mid step
-    c.args.place m.0 m.1 c.in_ok-command.command c.in_ok-command.ensures.command
-
-pub start-requires-clause-reads : goal.start-requires-clause-reads
-start-requires-clause-reads g c =
-    let plan = c.args.plan.now in
-    let st = states c.args.board.now.core in
-    let is = by-plan plan (rules c.args.board.now.core) st (turn.Start c.args.place)
-    c.requires.board.rules_are c.requires.next in
-    let m = start-missed plan st c.args.place is in
-    let mid = g.W.Spawner.runs c.clear_owned.new.world in
-    let step = step-same plan c.requires.plan st (g.W.Spawner.runs c.args.world.now) mid
-    c.in_ok-clear_owned.ensures.runs c.requires.steps in
-    reads-free plan c.requires.plan st c.closure_is_valid.ensures.ordered c.requires.calm mid step
-    c.args.place m.0 m.1 c.in_ok-command.command c.in_ok-command.ensures.command
-    (g.W.Tree.state c.clear_owned.new.world).held
-    (g.met.W.Spawner.held_by_running c.clear_owned.new.world)
-
 pub returns-in_err-start-clause-world : goal.returns-in_err-start-clause-world
 returns-in_err-start-clause-world g c =
     let plan = c.args.plan.now in
     let t = c.args.place in
     let st = states c.args.board.now.core in
-    let is = by-plan plan (rules c.args.board.now.core) st (turn.Start t) c.requires.board.rules_are
-    c.requires.next in
-    let script = c.requires.steps.scripts t (ap is_begun (start-missed plan st t is).1) in
+    let m = board-missed plan c.args.board.now c.requires.board t c.requires.next in
+    let script = c.requires.steps.scripts t (ap is_begun m.1) in
     let old = g.W.Spawner.runs c.args.world.now in
     let mid = g.W.Spawner.runs c.clear_owned.new.world in
     let new = g.W.Spawner.runs c.start.new.world in
@@ -174,9 +103,7 @@ returns-in_err-start-clause-halts g c told =
     let plan = c.args.plan.now in
     let t = c.args.place in
     let st = states c.args.board.now.core in
-    let is = by-plan plan (rules c.args.board.now.core) st (turn.Start t) c.requires.board.rules_are
-    c.requires.next in
-    let missed = (start-missed plan st t is).1 in
+    let missed = (board-missed plan c.args.board.now c.requires.board t c.requires.next).1 in
     let clear = c.in_ok-clear_owned.ensures in
     let start = c.in_err-start.ensures in
     let tree = g.W.Tree.state c.args.world.now in
@@ -207,9 +134,7 @@ pub returns-clause-steps : goal.returns-clause-steps
 returns-clause-steps g c =
     let plan = c.args.plan.now in
     let st = states c.args.board.now.core in
-    let is = by-plan plan (rules c.args.board.now.core) st (turn.Start c.args.place)
-    c.requires.board.rules_are c.requires.next in
-    let m = start-missed plan st c.args.place is in
+    let m = board-missed plan c.args.board.now c.requires.board c.args.place c.requires.next in
     let mid = g.W.Spawner.runs c.clear_owned.new.world in
     let step = step-same plan c.requires.plan st (g.W.Spawner.runs c.args.world.now) mid
     c.in_ok-clear_owned.ensures.runs c.requires.steps in
@@ -222,9 +147,8 @@ returns-clause-world g c =
     let plan = c.args.plan.now in
     let t = c.args.place in
     let st = states c.args.board.now.core in
-    let is = by-plan plan (rules c.args.board.now.core) st (turn.Start t) c.requires.board.rules_are
-    c.requires.next in
-    let script = c.requires.steps.scripts t (ap is_begun (start-missed plan st t is).1) in
+    let m = board-missed plan c.args.board.now c.requires.board t c.requires.next in
+    let script = c.requires.steps.scripts t (ap is_begun m.1) in
     let old = g.W.Spawner.runs c.args.world.now in
     let mid = g.W.Spawner.runs c.clear_owned.new.world in
     let new = g.W.Spawner.runs c.start.new.world in
@@ -233,11 +157,11 @@ returns-clause-world g c =
       book = c.in_ok-start.ensures.book ∙ ap (λ w. w.book) clear.runs;
       ours = (returns-clause-steps g c).ours;
       further = λ told. (
-          Start (command_of plan t) ∷ [],
-          own-steps plan st t c.in_ok-command.command c.in_ok-command.ensures.command old mid new
-              clear.runs c.in_ok-start.ensures.started g.W.Spawner.effect
-              (g.W.Tree.state c.clear_owned.new.world).files (c.in_ok-start.ensures.begins told),
-          );
+        Start (command_of plan t) ∷ [],
+        own-steps plan st t c.in_ok-command.command c.in_ok-command.ensures.command old mid new
+            clear.runs c.in_ok-start.ensures.started g.W.Spawner.effect
+            (g.W.Tree.state c.clear_owned.new.world).files (c.in_ok-start.ensures.begins told),
+      );
       elsewhere = λ told. elsewhere-then plan (g.W.Tree.state c.args.world.now).files
           (g.W.Tree.state c.clear_owned.new.world).files (g.W.Tree.state c.start.new.world).files
           (elsewhere-only plan t _ _ script (clear.others told))
@@ -249,9 +173,8 @@ returns-clause-stands g c told pairs room o stands =
     let plan = c.args.plan.now in
     let t = c.args.place in
     let st = states c.args.board.now.core in
-    let is = by-plan plan (rules c.args.board.now.core) st (turn.Start t) c.requires.board.rules_are
-    c.requires.next in
-    let m = start-missed plan st t is in
+    let is = board-next plan c.args.board.now c.requires.board (turn.Start t) c.requires.next in
+    let m = board-missed plan c.args.board.now c.requires.board t c.requires.next in
     let old = g.W.Spawner.runs c.args.world.now in
     let mid = g.W.Spawner.runs c.clear_owned.new.world in
     let new = g.W.Spawner.runs c.start.new.world in
@@ -287,3 +210,18 @@ returns-clause-stands g c told pairs room o stands =
 pub returns-clause-safe : goal.returns-clause-safe
 returns-clause-safe g c told o pairs room stands =
     c.halt_law.ensures.safe c.args.plan.now o _ (returns-clause-stands g c told pairs room o stands)
+
+pub clear_owned-requires-clause-free : goal.clear_owned-requires-clause-free
+clear_owned-requires-clause-free = Needs.clear_owned-requires-clause-free
+
+pub start-requires-clause-fresh : goal.start-requires-clause-fresh
+start-requires-clause-fresh = Needs.start-requires-clause-fresh
+
+pub start-requires-clause-absent : goal.start-requires-clause-absent
+start-requires-clause-absent = Needs.start-requires-clause-absent
+
+pub start-requires-clause-clear : goal.start-requires-clause-clear
+start-requires-clause-clear = Needs.start-requires-clause-clear
+
+pub start-requires-clause-reads : goal.start-requires-clause-reads
+start-requires-clause-reads = Needs.start-requires-clause-reads

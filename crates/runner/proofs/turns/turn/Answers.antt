@@ -1,10 +1,10 @@
-use Rattle.std.proofs.Common.{◌≡◌, ◌≤◌, ◌∙◌, ap, sym, refl, subst, arith}
+use Rattle.std.proofs.Common.{◌≤◌, ap, sym, refl, subst, arith}
 use Rattle.std.proofs.lemmas.Result.{err_from_is_err_and}
 use Rattle.run_core.specs.declared.states.Next.TheVariants as turn
 use Rattle.run_core.specs.declared.states.State.TheVariants.{Running}
 use Rattle.run_core.specs.Core.{rules, states}
 use Rattle.runner.specs.Costs.{still_costs}
-use Rattle.runner.proofs.BoardFacts.{by-plan, look-below, start-missed}
+use Rattle.runner.proofs.TurnFacts.{by-plan, look-below, start-missed}
 use Rattle.runner.proofs.CacheFacts.{cache-none, cache-reads, safe-none, safe-same}
 use Rattle.runner.proofs.CostFacts.{puts-less}
 use Rattle.runner.proofs.GoesFacts.{safe-less, world-none, world-same}
@@ -137,9 +137,11 @@ returns-in_err-finish-in-WaitFirst-clause-halts g c told store =
 
 pub returns-in-Finished-clause-turned : goal.returns-in-Finished-clause-turned
 returns-in-Finished-clause-turned g c =
-    let core = c.args.board.now.core in
-    (refl, by-plan c.args.plan.now (rules core) (states core) turn.Finished
-    c.requires.board.rules_are (sym c.in-Finished.ensures.next))
+    let core = c.args.board.now.core in (
+      refl,
+      by-plan c.args.plan.now (rules core) (states core) turn.Finished
+          c.requires.board.rules_are (sym c.in-Finished.ensures.next),
+    )
 
 pub returns-in-Finished-clause-world : goal.returns-in-Finished-clause-world
 returns-in-Finished-clause-world g c =

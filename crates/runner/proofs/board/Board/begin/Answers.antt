@@ -6,7 +6,8 @@ use Rattle.run_core.specs.Machine.{is_done}
 use Rattle.run_core.specs.Moves.{turns_left}
 use Rattle.run_plan.specs.Openings.{rules_of}
 use Rattle.run_plan.specs.Stories.{is_settled}
-use Rattle.runner.proofs.BoardFacts.{Moved, put-moved, put-here, put-settled, flags-bare, by-plan, start-missed, turns-started}
+use Rattle.runner.proofs.BoardFacts.{Moved, put-moved, put-here, put-settled, flags-bare}
+use Rattle.runner.proofs.TurnFacts.{by-plan, start-missed, turns-started}
 use Rattle.runner.proofs.board.Board.begin.Goals as goal
 
 pub returns-clause-moved : goal.returns-clause-moved

@@ -10,7 +10,8 @@ use Rattle.run_plan.specs.Stories.{is_settled}
 use Rattle.run_plan.specs.Reports.{report_in}
 use Rattle.spawn_dev.specs.Spawn.{put_at}
 use Rattle.runner.specs.Tables.{flag_in}
-use Rattle.runner.proofs.BoardFacts.{Moved, end-here, end-moved, end-settled, running-deps, new-flag, flags-done, by-plan, other-reports, turns-ended}
+use Rattle.runner.proofs.BoardFacts.{Moved, end-here, end-moved, end-settled, running-deps, new-flag, flags-done}
+use Rattle.runner.proofs.TurnFacts.{by-plan, other-reports, turns-ended}
 use Rattle.runner.proofs.board.Board.end.Goals as goal
 
 not-so : (b : Bool) → b ≡ true → not b ≡ false

@@ -9,7 +9,8 @@ use Rattle.run_plan.specs.Stories.{is_settled}
 use Rattle.run_plan.specs.Reports.{report_in}
 use Rattle.spawn_dev.specs.Spawn.{put_at}
 use Rattle.runner.specs.Tables.{flag_in}
-use Rattle.runner.proofs.BoardFacts.{Moved, put-moved, put-here, put-settled, deps-done, new-flag, flags-done, by-plan, look-waits, other-reports, turns-found}
+use Rattle.runner.proofs.BoardFacts.{Moved, put-moved, put-here, put-settled, deps-done, new-flag, flags-done}
+use Rattle.runner.proofs.TurnFacts.{by-plan, look-waits, other-reports, turns-found}
 use Rattle.runner.proofs.board.Board.hit.Goals as goal
 
 pub returns-clause-moved : goal.returns-clause-moved

@@ -7,7 +7,8 @@ use Rattle.run_core.specs.Moves.{turns_left}
 use Rattle.run_plan.specs.Openings.{rules_of}
 use Rattle.run_plan.specs.Stories.{is_settled}
 use Rattle.runner.specs.Tables.{fingerprint_in}
-use Rattle.runner.proofs.BoardFacts.{Moved, put-moved, put-here, put-settled, flags-bare, by-plan, look-waits, turns-missed, known-set}
+use Rattle.runner.proofs.BoardFacts.{Moved, put-moved, put-here, put-settled, flags-bare}
+use Rattle.runner.proofs.TurnFacts.{by-plan, look-waits, turns-missed, known-set}
 use Rattle.runner.proofs.board.Board.miss.Goals as goal
 
 pub returns-clause-moved : goal.returns-clause-moved

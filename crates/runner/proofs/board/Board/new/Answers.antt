@@ -1,8 +1,7 @@
 use Rattle.std.proofs.Common.{◌∙◌, sym, ap, arith}
 use Rattle.std.proofs.lemmas.Bool.{false≢true}
 use Rattle.run_core.specs.Machine.{is_done}
-use Rattle.runner.proofs.BoardFacts.{none-known}
-use Rattle.runner.specs.Tables.{fingerprint_in}
+use Rattle.runner.proofs.TurnFacts.{none-known}
 use Rattle.runner.proofs.board.Board.new.Goals as goal
 
 pub returns-clause-board : goal.returns-clause-board

@@ -8,7 +8,8 @@ use Rattle.run_plan.specs.Openings.{rules_of}
 use Rattle.run_plan.specs.Stories.{is_settled}
 use Rattle.spawn_dev.specs.Spawn.{put_at}
 use Rattle.runner.specs.Tables.{flag_in}
-use Rattle.runner.proofs.BoardFacts.{Moved, put-moved, put-here, put-settled, deps-done, new-flag, flags-done, by-plan, look-waits, turns-found}
+use Rattle.runner.proofs.BoardFacts.{Moved, put-moved, put-here, put-settled, deps-done, new-flag, flags-done}
+use Rattle.runner.proofs.TurnFacts.{by-plan, look-waits, turns-found}
 use Rattle.runner.proofs.board.Board.pass.Goals as goal
 
 pub returns-clause-moved : goal.returns-clause-moved
