@@ -1,7 +1,7 @@
 -- Lists of files whose paths ascend, each path before the next one or each before all behind it.
-use Rattle.std.proofs.Common.{◌≡◌, ◌≢◌, Bool, true, false, ◌||◌, List, [], ◌∷◌, ◌++◌, refl, sym, ap, ◌∙◌}
+use Rattle.std.proofs.Common.{◌≡◌, ◌≢◌, Bool, true, false, ◌||◌, ◌&&◌, List, [], ◌∷◌, ◌++◌, refl, sym, ap, ◌∙◌}
 use Rattle.std.specs.Prelude.{ℕ}
-use Rattle.std.specs.List.{AllByRecursion}
+use Rattle.std.specs.List.{AllByRecursion, list_all}
 use Rattle.std.specs.List.Sorted.{IsStrictlySortedBy}
 use Rattle.std.specs.Cmp.{first_so, second_so}
 use Rattle.std.specs.declared.cmp.Ordering.{Ordering}
@@ -14,6 +14,7 @@ use Rattle.globs.specs.Outputs.{takes, shares}
 use Rattle.globs.specs.OutLaws.{takes_within, shares_within, may_take, may_take-Within}
 use Rattle.rel_path.specs.Paths.{strip}
 use Rattle.cache_api.specs.Artifacts.{File, ascends, ascends_from}
+use Rattle.cache_api.specs.Hits.{each_before}
 use Rattle.globs.specs.OwnedFiles.{owns_all}
 use Rattle.capture.specs.Owned.{paths_of, declares, AreBelow}
 
@@ -27,17 +28,25 @@ is_Less Less e = refl
 is_Less Equal e = cc
 is_Less Greater e = cc
 
-sorted_from : (last : Path) (files : List File) → ascends_from last files ≡ true → AllByRecursion (λ y. path_cmp last y ≡ Less) (paths_of files) × IsStrictlySortedBy path_cmp (paths_of files)
+sorted_from : (last : Path) (paths : List Path) → each_before last paths ≡ true
+    → AllByRecursion (λ y. path_cmp last y ≡ Less) paths × IsStrictlySortedBy path_cmp paths
 unfolding IsStrictlySortedBy
 sorted_from last [] e = (tt, tt)
-sorted_from last (f ∷ fs) e =
-    let less = is_Less (path_cmp last f.0) (first_so (is_lt (path_cmp last f.0)) (ascends_from f.0 fs) e) in
-    let rest = sorted_from f.0 fs (second_so (is_lt (path_cmp last f.0)) (ascends_from f.0 fs) e) in
-    ((less, below_all last f.0 (paths_of fs) less rest.0), (rest.0, rest.1))
+sorted_from last (p ∷ ps) e =
+    let less = is_Less (path_cmp last p) (first_so (is_lt (path_cmp last p)) (each_before p ps) e) in
+    let rest = sorted_from p ps (second_so (is_lt (path_cmp last p)) (each_before p ps) e) in
+    ((less, below_all last p ps less rest.0), (rest.0, rest.1))
 
 -- paths that ascend one by one ascend
+pub sorted_paths : (paths : List Path) → each_before [] paths ≡ true → IsStrictlySortedBy path_cmp paths
+sorted_paths paths e = (sorted_from [] paths e).1
+
+one_by_one : (last : Path) (files : List File) → ascends_from last files ≡ each_before last (paths_of files)
+one_by_one last [] = refl
+one_by_one last (f ∷ fs) = ap (λ b. is_lt (path_cmp last f.0) && b) (one_by_one f.0 fs)
+
 pub sorted_files : (files : List File) → ascends files ≡ true → IsStrictlySortedBy path_cmp (paths_of files)
-sorted_files files e = (sorted_from [] files e).1
+sorted_files files e = sorted_paths (paths_of files) (sym (one_by_one [] files) ∙ e)
 
 from_sorted : (last : Path) (files : List File) → AllByRecursion (λ y. path_cmp last y ≡ Less) (paths_of files) → IsStrictlySortedBy path_cmp (paths_of files) → ascends_from last files ≡ true
 unfolding IsStrictlySortedBy
@@ -77,11 +86,18 @@ declared_below outs path d = by (takes outs path) (shares outs path) refl refl d
     by false true et es h = may_below outs.folder path (shares_within outs path es)
     by false false et es h = absurd (let y : false ≡ true = h in cc)
 
--- a task owns each path of files that it owns
-pub owns_each : (outs : OutSet) (files : List File) → owns_all outs files ≡ true → (path : Path) → is_among (paths_of files) path ≡ true → takes outs path ≡ true
-owns_each outs [] all path h = absurd (let y : false ≡ true = h in cc)
-owns_each outs (f ∷ fs) all path h = by (owns_each outs fs (second_so (takes outs f.0) (owns_all outs fs) all) path) (path_eq f.0 path) refl h
+-- a task owns each of the paths that it owns
+pub owns_among : (outs : OutSet) (paths : List Path) → list_all (takes outs) paths ≡ true → (path : Path) → is_among paths path ≡ true → takes outs path ≡ true
+owns_among outs [] all path h = absurd (let y : false ≡ true = h in cc)
+owns_among outs (p ∷ ps) all path h = by (owns_among outs ps (second_so (takes outs p) (list_all (takes outs) ps) all) path) (path_eq p path) refl h
   where
-    by : (is_among (paths_of fs) path ≡ true → takes outs path ≡ true) → (b : Bool) → path_eq f.0 path ≡ b → (b || is_among (paths_of fs) path) ≡ true → takes outs path ≡ true
-    by later true e k = ap (takes outs) (sym (path_same f.0 path e)) ∙ first_so (takes outs f.0) (owns_all outs fs) all
+    by : (is_among ps path ≡ true → takes outs path ≡ true) → (b : Bool) → path_eq p path ≡ b → (b || is_among ps path) ≡ true → takes outs path ≡ true
+    by later true e k = ap (takes outs) (sym (path_same p path e)) ∙ first_so (takes outs p) (list_all (takes outs) ps) all
     by later false e k = later k
+
+owns_one_by_one : (outs : OutSet) (files : List File) → owns_all outs files ≡ list_all (takes outs) (paths_of files)
+owns_one_by_one outs [] = refl
+owns_one_by_one outs (f ∷ fs) = ap (λ b. takes outs f.0 && b) (owns_one_by_one outs fs)
+
+pub owns_each : (outs : OutSet) (files : List File) → owns_all outs files ≡ true → (path : Path) → is_among (paths_of files) path ≡ true → takes outs path ≡ true
+owns_each outs files all = owns_among outs (paths_of files) (sym (owns_one_by_one outs files) ∙ all)

@@ -4,3 +4,5 @@ mod Readings
 mod Takings
 mod Ascents
 mod HitFacts
+mod Sought
+mod Leavings

@@ -1,17 +1,18 @@
 -- List File put over others, one by one.
-use Rattle.std.proofs.Common.{◌≡◌, ℕ, zero, suc, ◌+◌, ◌<◌, Bool, true, false, cond, ◌||◌, List, [], ◌∷◌, ◌++◌, length, get_or, take, refl, sym, ap, ◌∙◌, arith, add-one}
+use Rattle.std.proofs.Common.{◌≡◌, ℕ, zero, suc, ◌+◌, ◌<◌, Bool, true, false, not, cond, ◌||◌, ◌&&◌, List, [], ◌∷◌, ◌++◌, length, get_or, take, refl, sym, ap, ◌∙◌, arith, add-one}
 use Rattle.std.proofs.Math.Seq.{take-suc}
-use Rattle.std.specs.Prelude.{Option, Some, None}
+use Rattle.std.specs.Prelude.{Option, Some, None, is_some}
 use Rattle.std.specs.List.{AllByRecursion}
 use Rattle.std.specs.List.Sorted.{IsStrictlySortedBy}
 use Rattle.std.specs.declared.cmp.Ordering.TheVariants.{Less}
 use Rattle.rel_path.specs.Paths.{Path, path_cmp, path_eq, is_among}
-use Rattle.rel_path.specs.Files.{FileMap, file_at, SameBut}
+use Rattle.rel_path.specs.Files.{FileMap, file_at, has, SameBut}
 use Rattle.cache_api.specs.Artifacts.{File}
 use Rattle.rel_path.proofs.PathLaws.{path_same, path_self, path_other, path_cmp_self}
 use Rattle.globs.specs.declared.out_set.OutSet.{OutSet}
 use Rattle.globs.specs.Outputs.{takes}
 use Rattle.capture.specs.Owned.{paths_of}
+use Rattle.capture.specs.Kept.{cleared_but}
 use Rattle.globs.specs.OwnedFiles.{SameOutside}
 use Rattle.globs.specs.OwnedFiles.{cleared, restored}
 
@@ -97,6 +98,14 @@ pub over_outside : (outs : OutSet) (fs : List File) (i : ℕ) (old new : FileMap
 over_outside outs fs i old new fits is p h =
     is p ∙ ap (λ x. first_of_two x (cleared outs old p)) (absent fs i p (not_taken outs fs p fits h)) ∙ ap (λ b. cond b None (old p)) h
 
+absent_all : (fs : List File) (p : Path) → is_among (paths_of fs) p ≡ false → file_at fs p ≡ None
+absent_all [] p h = refl
+absent_all (f ∷ fs) p h =
+    elim (path_eq f.0 p) as (λ b. (b || is_among (paths_of fs) p) ≡ false → cond b (Some f.1) (file_at fs p) ≡ None) [
+      | true ↦ λ k. absurd (let y : true ≡ false = k in cc)
+      | false ↦ λ k. absent_all fs p k
+    ] h
+
 pub over_restored : (outs : OutSet) (fs : List File) (old new : FileMap) → ((p : Path) → is_among (paths_of fs) p ≡ true → takes outs p ≡ true)
     → ((p : Path) → new p ≡ over fs (cleared outs old) p) → new ≡ restored outs fs old
 over_restored outs fs old new fits is = λ k p. each p (takes outs p) refl k
@@ -104,14 +113,68 @@ over_restored outs fs old new fits is = λ k p. each p (takes outs p) refl k
     each : (p : Path) (t : Bool) → takes outs p ≡ t → new p ≡ cond t (file_at fs p) (old p)
     each p true h = is p ∙ ap (λ b. first_of_two (file_at fs p) (cond b None (old p))) h ∙ two_none (file_at fs p)
     each p false h = is p ∙ ap (λ b. first_of_two (file_at fs p) (cond b None (old p))) h ∙ ap (λ x. first_of_two x (old p)) (absent_all fs p (not_taken outs fs p fits h))
-      where
-        absent_all : (fs : List File) (p : Path) → is_among (paths_of fs) p ≡ false → file_at fs p ≡ None
-        absent_all [] p h = refl
-        absent_all (f ∷ fs) p h =
-            elim (path_eq f.0 p) as (λ b. (b || is_among (paths_of fs) p) ≡ false → cond b (Some f.1) (file_at fs p) ≡ None) [
-              | true ↦ λ k. absurd (let y : true ≡ false = k in cc)
-              | false ↦ λ k. absent_all fs p k
-            ] h
+
+-- one of the files hides what lies below
+hides : (fs : List File) (p : Path) (below : Option (List ℕ)) → is_among (paths_of fs) p ≡ true → first_of_two (file_at fs p) below ≡ file_at fs p
+hides [] p below h = absurd (let y : false ≡ true = h in cc)
+hides (f ∷ fs) p below h =
+    elim (path_eq f.0 p) as (λ b. (b || is_among (paths_of fs) p) ≡ true → first_of_two (cond b (Some f.1) (file_at fs p)) below ≡ cond b (Some f.1) (file_at fs p)) [
+      | true ↦ λ k. refl
+      | false ↦ λ k. hides fs p below k
+    ] h
+
+-- the files over what is left when the owned files are removed whose paths are none of theirs
+pub over_left : (outs : OutSet) (fs : List File) (kept : List Path) (old new : FileMap) → paths_of fs ≡ kept
+    → ((p : Path) → is_among (paths_of fs) p ≡ true → takes outs p ≡ true)
+    → ((p : Path) → new p ≡ over fs (cleared_but outs kept old) p) → new ≡ restored outs fs old
+over_left outs fs kept old new same fits is = λ k p. each p (takes outs p) (is_among (paths_of fs) p) refl refl k
+  where
+    at : (p : Path) (t a : Bool) → takes outs p ≡ t → is_among (paths_of fs) p ≡ a
+        → new p ≡ first_of_two (file_at fs p) (cond (t && not a) None (old p))
+    at p t a h e =
+        is p ∙ ap (λ b. first_of_two (file_at fs p) (cond (b && not (is_among kept p)) None (old p))) h
+        ∙ ap (λ b. first_of_two (file_at fs p) (cond (t && not b) None (old p))) (ap (λ ps. is_among ps p) (sym same) ∙ e)
+
+    each : (p : Path) (t a : Bool) → takes outs p ≡ t → is_among (paths_of fs) p ≡ a → new p ≡ cond t (file_at fs p) (old p)
+    each p true true h e = at p true true h e ∙ hides fs p (old p) e
+    each p true false h e = at p true false h e ∙ two_none (file_at fs p)
+    each p false a h e =
+        at p false a h e ∙ ap (λ x. first_of_two x (old p)) (absent_all fs p (not_taken outs fs p fits h))
+
+-- before the first of them is put
+pub over_none : (outs : OutSet) (left kept : List Path) (old new : FileMap) → new ≡ cleared_but outs left old → left ≡ kept
+    → (p : Path) → new p ≡ over [] (cleared_but outs kept old) p
+over_none outs left kept old new is same p = ap (λ m. m p) is ∙ ap (λ ps. cleared_but outs ps old p) same
+
+-- ---- where the files stand there already
+
+-- the bytes at the path of one of the files
+file_here : (fs : List File) (i : ℕ) (d : Path × List ℕ) → IsStrictlySortedBy path_cmp (paths_of fs) → i < length fs
+    → file_at fs (get_or fs i d).0 ≡ Some (get_or fs i d).1
+unfolding IsStrictlySortedBy
+file_here [] i d sorted lt = absurd (omega arith)
+file_here (f ∷ fs) zero d sorted lt = ap (λ b. cond b (Some f.1) (file_at fs f.0)) (path_self f.0)
+file_here (f ∷ fs) (suc i) d sorted lt =
+    ap (λ b. cond b (Some f.1) (file_at fs (get_or fs i d).0)) (less_other f.0 (get_or fs i d).0 (later f.0 fs i d sorted.0 (omega arith)))
+    ∙ file_here fs i d sorted.1 (omega arith)
+
+pub stands_so : (outs : OutSet) (fs : List File) (old : FileMap) (i : ℕ) (d : Path × List ℕ) → IsStrictlySortedBy path_cmp (paths_of fs)
+    → i < length fs → takes outs (get_or fs i d).0 ≡ true → old ≡ restored outs fs old → old (get_or fs i d).0 ≡ Some (get_or fs i d).1
+stands_so outs fs old i d sorted lt owned is =
+    ap (λ m. m (get_or fs i d).0) is
+    ∙ ap (λ b. cond b (file_at fs (get_or fs i d).0) (old (get_or fs i d).0)) owned
+    ∙ file_here fs i d sorted lt
+
+-- and each owned file is one of them
+pub all_in : (outs : OutSet) (fs : List File) (old : FileMap) → old ≡ restored outs fs old
+    → (p : Path) → takes outs p ≡ true → has old p ≡ true → is_among (paths_of fs) p ≡ true
+all_in outs fs old is p t h = by (is_among (paths_of fs) p) refl
+  where
+    by : (b : Bool) → is_among (paths_of fs) p ≡ b → b ≡ true
+    by true e = refl
+    by false e =
+        let none : old p ≡ None = ap (λ m. m p) is ∙ ap (λ b. cond b (file_at fs p) (old p)) t ∙ absent_all fs p e in
+        absurd (let y : false ≡ true = sym (ap is_some none) ∙ h in cc)
 
 -- a path of the list
 pub path_at : (fs : List File) (i : ℕ) (d : Path × List ℕ) → i < length fs → is_among (paths_of fs) (get_or fs i d).0 ≡ true

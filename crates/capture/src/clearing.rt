@@ -16,7 +16,11 @@ use tree_dev::{DevErr, Tree};
 use tree_walk::{Bounds, WalkErr, gather};
 
 // The owned files, in order.
-fn owned_paths<T: Tree>(alloc: Global, tree: &mut T, outs: &OutSet) -> Result<Paths, CapErr>
+pub(crate) fn owned_paths<T: Tree>(
+    alloc: Global,
+    tree: &mut T,
+    outs: &OutSet,
+) -> Result<Paths, CapErr>
     requires free { NoneHeld (takes outs.now) (T.state tree.old).held }
     ensures looks { Looks (T.state tree.old) (T.state tree.new) }
     ensures lists { IfOk result (ListsOwned T.tells (T.state tree.old).files outs.now) }

@@ -12,7 +12,7 @@ ghost use Rattle.task_devices.specs.Stops.{faults_of, StopsBy};
 
 use crate::RunErr;
 use cache_api::{Cache, Hit};
-use capture::{CapErr, HitErr};
+use capture::{CapErr, HitErr, write_changed};
 use rel_path::Bytes;
 use run_plan::Plan;
 use spawn_dev::Spawner;
@@ -98,7 +98,7 @@ pub fn put_back<W: Spawner, C: Cache>(
     }
 }
 
-/// Writes the log file of the task.
+/// Writes the log file of the task, unless it stands there with this log already.
 pub fn keep_log<W: Spawner>(
     alloc: Global,
     plan: &Plan,
@@ -118,7 +118,7 @@ pub fn keep_log<W: Spawner>(
         (faults_of (W.state world.new).faults 0 (W.runs world.new).faults 0) result }
 {
     let path = plan.log_path(alloc, place)?;
-    match world.write(alloc, &path, log) {
+    match write_changed(alloc, world, &path, log) {
         Ok(()) => Ok(()),
         Err(DevErr::Failed) => Err(RunErr::TreeFault),
         Err(DevErr::OutOfMemory) => Err(RunErr::OutOfMemory),

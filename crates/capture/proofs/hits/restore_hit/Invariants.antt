@@ -1,9 +1,11 @@
 use Rattle.std.proofs.Common.{◌≡◌, ◌+◌, ◌≤◌, length, take}
 use Rattle.std.specs.Prelude.{sum_by}
 use Rattle.rel_path.specs.Paths.{Path}
-use Rattle.tree_dev.specs.Tree.{Keeps}
-use Rattle.globs.specs.OwnedFiles.{cleared, SameOutside}
+use Rattle.tree_dev.specs.Tree.{Keeps, Looks}
+use Rattle.globs.specs.OwnedFiles.{restored, SameOutside}
 use Rattle.cache_api.specs.Cache.{CacheReads}
+use Rattle.cache_api.specs.Hits.{paths_of}
+use Rattle.capture.specs.Kept.{cleared_but}
 use Rattle.capture.proofs.Puts.{over}
 use Rattle.capture.proofs.hits.restore_hit.Given as goal
 
@@ -17,5 +19,6 @@ invariant-loop-index g l = record {
   keeps : Keeps (g.T.Tree.state l.fn.tree) (g.T.Tree.state l.tree);
   faults : (g.T.Tree.state l.tree).faults ≡ (g.T.Tree.state l.fn.tree).faults;
   others : g.T.Tree.tells → SameOutside l.outs (g.T.Tree.state l.fn.tree).files (g.T.Tree.state l.tree).files;
-  over : g.T.Tree.tells → g.C.Cache.tells → (path : Path) → (g.T.Tree.state l.tree).files path ≡ over (take l.index (g.C.Cache.shows l.fn.cache l.hit).1) (cleared l.outs (g.T.Tree.state l.fn.tree).files) path;
+  over : g.T.Tree.tells → g.C.Cache.tells → (path : Path) → (g.T.Tree.state l.tree).files path ≡ over (take l.index (g.C.Cache.shows l.fn.cache l.hit).1) (cleared_but l.outs (paths_of l.hit) (g.T.Tree.state l.fn.tree).files) path;
+  same : g.T.Tree.tells → g.C.Cache.tells → (g.T.Tree.state l.fn.tree).files ≡ restored l.outs (g.C.Cache.shows l.fn.cache l.hit).1 (g.T.Tree.state l.fn.tree).files → Looks (g.T.Tree.state l.fn.tree) (g.T.Tree.state l.tree);
 }
