@@ -76,10 +76,18 @@ fn run_through<W: Spawner, C: Cache, K: Sink>(
 /// block of a task is printed as soon as no earlier task is unsettled, and the summary at the end.
 /// The answer is the greatest status, and 0 where no task failed.
 ///
-/// Nothing may run in the world, the cache has to be whole, and where the world tells its files
-/// they have to hold the listing's bytes at its inputs. Of several faults the first is answered,
-/// after all running commands were waited for; the page then has whole blocks in the order of the
-/// plan, and where the output failed some first part of what follows.
+/// Nothing may run in the world, the cache has to be whole, and where the world tells its files they
+/// have to hold the listing's bytes at its inputs.
+///
+/// Of several faults the first is answered, after all running commands were waited for. The files,
+/// pairs, steps and page are then those of a run that came some way by the rules of the plan: each
+/// task that was done has left what it leaves, the page has whole blocks in the order of the plan,
+/// and where the output failed some first part of what follows. Where another device failed, no
+/// block waits to be printed.
+///
+/// A crash at any moment leaves in the cache the pairs of the beginning, and behind them some of the
+/// results that the run puts there. A run that only looks tasks up reads the cache no more often
+/// than one look-up of each task may.
 ///
 /// The key of a task is made when it is looked up, and once more when its command has ended; it is
 /// not kept meanwhile, but its fingerprint is. Beyond that, a task costs about as much as its
