@@ -6,8 +6,6 @@ use Rattle.record_log.specs.Frames.Fault.{NotAStore, Damaged}
 use Rattle.cli_words.specs.declared.order.Order.{Order}
 use Rattle.cli_words.specs.declared.order.Order.TheVariants.{Run, Prune, Sample, Compact, Help}
 use Rattle.cli_words.specs.declared.order.RunOrder.{RunOrder}
-use Rattle.cli_words.specs.declared.order.KeepOn.{KeepOn}
-use Rattle.cli_words.specs.declared.order.KeepOn.TheVariants as keep
 use Rattle.cli_words.specs.declared.order.Access.{Access}
 use Rattle.cli_words.specs.declared.error.WordsErr.{WordsErr}
 use Rattle.cli_words.specs.Orders.{order_of}
@@ -16,7 +14,7 @@ use Rattle.refusals.specs.declared.refusal.Refusal.TheVariants as refusal
 use Rattle.run_plan.specs.declared.plan.Plan.{Plan}
 use Rattle.plan_laws.specs.Laws.{AsksFor}
 use Rattle.turbo_app.specs.declared.answer.Answer.{Answer}
-use Rattle.turbo_app.specs.declared.unbuilt.TheConstants.{PRUNE_FORM, ALWAYS_FORM, CACHE_FORM, SHARED_FORM, SAMPLE_FORM, COMPACT_FORM}
+use Rattle.turbo_app.specs.declared.unbuilt.TheConstants.{PRUNE_FORM, CACHE_FORM, SHARED_FORM, SAMPLE_FORM, COMPACT_FORM}
 use Rattle.turbo_app.specs.Answers.{IsNothingBut}
 
 abbrev pub store_refusal : Fault → Refusal
@@ -33,11 +31,6 @@ pub record HasBadStore (order : RunOrder) (env : List (List ℕ × List ℕ)) (f
 
 -- ---- what is not built
 
-abbrev pub is_always : KeepOn → Bool
-is_always keep.Never = false
-is_always keep.DependenciesSuccessful = false
-is_always keep.Always = true
-
 -- results are looked up in the local store and put into it, and there is no other
 abbrev pub is_local_alone : Access → Bool
 is_local_alone access =
@@ -45,9 +38,8 @@ is_local_alone access =
 
 unfoldable pub unbuilt_run : RunOrder → Option ℕ
 unbuilt_run order =
-    if is_always order.keep_on then Some ALWAYS_FORM
-    else (if not (is_local_alone order.access) then Some CACHE_FORM
-    else (if order.shared then Some SHARED_FORM else None))
+    if not (is_local_alone order.access) then Some CACHE_FORM
+    else (if order.shared then Some SHARED_FORM else None)
 
 -- the number of what the order asks for that is not built
 abbrev pub unbuilt_form : Order → Option ℕ

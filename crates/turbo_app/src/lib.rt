@@ -14,4 +14,4 @@ mod unbuilt;
 pub use answer::Answer;
 pub use refusals::Refusal;
 pub use top::{run_order, turbo};
-pub use unbuilt::{ALWAYS_FORM, CACHE_FORM, COMPACT_FORM, PRUNE_FORM, SAMPLE_FORM, SHARED_FORM};
+pub use unbuilt::{CACHE_FORM, COMPACT_FORM, PRUNE_FORM, SAMPLE_FORM, SHARED_FORM};

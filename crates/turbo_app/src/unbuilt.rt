@@ -1,14 +1,11 @@
 // What orders ask for that is not built. A refusal names it by its number.
 ghost use Rattle.std.specs.Prelude.{◌≡◌};
-ghost use Rattle.turbo_app.specs.Asking.{is_always, is_local_alone, unbuilt_run};
+ghost use Rattle.turbo_app.specs.Asking.{is_local_alone, unbuilt_run};
 
-use cli_words::{Access, KeepOn, RunOrder};
+use cli_words::{Access, RunOrder};
 
 /// Orders to prune.
 pub const PRUNE_FORM: u8 = 11;
-
-/// A run that goes on with tasks that need a failed one.
-pub const ALWAYS_FORM: u8 = 12;
 
 /// A run with any stores but the local one, with both rights.
 pub const CACHE_FORM: u8 = 13;
@@ -22,15 +19,6 @@ pub const SAMPLE_FORM: u8 = 15;
 /// Orders to make the store smaller.
 pub const COMPACT_FORM: u8 = 16;
 
-fn is_always(keep_on: KeepOn) -> bool
-    ensures { result ≡ is_always keep_on }
-{
-    match keep_on {
-        KeepOn::Always => true,
-        KeepOn::Never | KeepOn::DependenciesSuccessful => false,
-    }
-}
-
 /// Whether results are looked up in the local store and put into it, and there is no other.
 fn is_local_alone(access: Access) -> bool
     ensures { result ≡ is_local_alone access }
@@ -43,9 +31,6 @@ fn is_local_alone(access: Access) -> bool
 pub(crate) fn unbuilt_run(order: &RunOrder) -> Option<u8>
     ensures { result ≡ unbuilt_run order.now }
 {
-    if is_always(order.keep_on) {
-        return Some(ALWAYS_FORM);
-    }
     if !is_local_alone(order.access) {
         return Some(CACHE_FORM);
     }
