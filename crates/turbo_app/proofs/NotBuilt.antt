@@ -1,5 +1,5 @@
 -- Why a run is refused, by what of it is not built.
-use Rattle.std.proofs.Common.{◌≡◌, ◌∙◌, ℕ, List, Some, None, Ok, inl, inr, refl, sym, subst, Bool}
+use Rattle.std.proofs.Common.{◌≡◌, ◌∙◌, ℕ, List, Some, None, Ok, inl, inr, sym, subst}
 use Rattle.std.specs.Prelude.{Option, MatchOption}
 use Rattle.rel_path.specs.Files.{FileMap}
 use Rattle.cli_words.specs.declared.order.Order.TheVariants.{Run}
@@ -7,6 +7,7 @@ use Rattle.cli_words.specs.declared.order.RunOrder.{RunOrder}
 use Rattle.refusals.specs.declared.refusal.Refusal.{Refusal}
 use Rattle.refusals.specs.declared.refusal.Refusal.TheVariants as refusal
 use Rattle.run_laws.specs.Effects.{Book}
+use Rattle.run_plan.specs.Answers.{Cause}
 use Rattle.turbo_app.specs.declared.answer.Answer.{Answer}
 use Rattle.turbo_app.specs.declared.answer.Answer.TheVariants.{Done, Refused, TreeFault, StoreFault, StartFault, SinkFault, OutOfMemory}
 use Rattle.turbo_app.specs.Answers.{IfDone, IfRefused, IsNothingBut}
@@ -54,7 +55,14 @@ module _ (order : RunOrder) (env : List (List ℕ × List ℕ)) (files : FileMap
   pub refused_built : unbuilt_run order ≡ None → (reason : Refusal) → IsRefusedOrder (Ok (Run order)) env files stored reason → IsRefusedRun order env files stored reason
   refused_built is reason refused = subst (λ o. By reason o) is refused
 
-pub stopped_built : (order : RunOrder) (env : List (List ℕ × List ℕ)) (book : Book) (old : Moment) (after : List ℕ) → unbuilt_run order ≡ None → (output_failed : Bool) (line : List ℕ)
-    → StoppedRun (IsRefusedRun order env old.files old.stored) order book env old after output_failed line → StoppedRun (IsRefusedOrder (Ok (Run order)) env old.files old.stored) order book env old after output_failed line
-stopped_built order env book old after is output_failed line (inl early) = inl (early_as _ _ (built_refused order env old.files old.stored is) old.printed after output_failed line early)
-stopped_built order env book old after is output_failed line (inr stops) = inr stops
+pub stopped_built : (order : RunOrder) (env : List (List ℕ × List ℕ)) (book : Book)
+    (Heard : Type 0) (old new : Moment) → unbuilt_run order ≡ None
+    → (cause : Cause) (line : List ℕ)
+    → StoppedRun (IsRefusedRun order env old.files old.stored) order book env Heard old new
+    cause line
+    → StoppedRun (IsRefusedOrder (Ok (Run order)) env old.files old.stored) order book env Heard
+    old new cause line
+stopped_built order env book Heard old new is cause line (inl early) =
+    inl (early_as _ _ (built_refused order env old.files old.stored is) old.printed new.printed
+    cause line early)
+stopped_built order env book Heard old new is cause line (inr stops) = inr stops

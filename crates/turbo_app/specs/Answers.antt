@@ -1,6 +1,8 @@
 -- What the program's answers say of its devices.
 use Rattle.std.specs.Prelude.{◌≡◌, ℕ, ◌≤◌, ◌<◌, ◌-◌, ◌^◌, ⊤}
 use Rattle.rel_path.specs.Causes.{Rose}
+use Rattle.tree_dev.specs.Tree.{TreeState}
+use Rattle.spawn_dev.specs.Spawn.{Runs}
 use Rattle.refusals.specs.declared.refusal.Refusal.{Refusal}
 use Rattle.turbo_app.specs.declared.answer.Answer.{Answer}
 use Rattle.turbo_app.specs.declared.answer.Answer.TheVariants.{Done, Refused, TreeFault, StoreFault, StartFault, SinkFault, OutOfMemory}
@@ -49,16 +51,31 @@ pub record FaultCounts : Type 0 where
 abbrev pub counts_of : ℕ → ℕ → ℕ → ℕ → FaultCounts
 counts_of tree store start sink = record { tree = tree; store = store; start = start; sink = sink }
 
--- A fault is answered only where the device's own count rose, and none that goes before it did. What came to its end, or was refused, leaves all counts;
--- after want of memory none rose but that of starting commands, where running ones were waited for.
+-- the counts of a world, of a store and of an output
+abbrev pub counts_at : {B R : Type 0} → TreeState R → Runs B → ℕ → ℕ → FaultCounts
+counts_at tree runs store sink = counts_of tree.faults store runs.faults sink
+
+-- A fault is answered only where the device's own count rose, and none that goes before it did. What came to its end, or
+-- was refused, leaves all counts; after want of memory none rose but that of starting commands, where running ones were
+-- waited for. No count falls.
 abbrev pub HasCauseIn : FaultCounts → FaultCounts → Answer → Type 0
 HasCauseIn old new (Done status) = new ≡ old
 HasCauseIn old new (Refused refusal) = new ≡ old
-HasCauseIn old new TreeFault = Rose old.tree new.tree × (new.store ≡ old.store)
-HasCauseIn old new StoreFault = Rose old.store new.store × (new.tree ≡ old.tree)
-HasCauseIn old new StartFault = Rose old.start new.start × (new.tree ≡ old.tree) × (new.store ≡ old.store)
-HasCauseIn old new SinkFault = Rose old.sink new.sink × (new.tree ≡ old.tree) × (new.store ≡ old.store)
-HasCauseIn old new OutOfMemory = (new.tree ≡ old.tree) × (new.store ≡ old.store) × (new.sink ≡ old.sink)
+HasCauseIn old new TreeFault =
+    Rose old.tree new.tree × (new.store ≡ old.store) × (old.start ≤ new.start)
+    × (old.sink ≤ new.sink)
+HasCauseIn old new StoreFault =
+    Rose old.store new.store × (new.tree ≡ old.tree) × (old.start ≤ new.start)
+    × (old.sink ≤ new.sink)
+HasCauseIn old new StartFault =
+    Rose old.start new.start × (new.tree ≡ old.tree) × (new.store ≡ old.store)
+    × (old.sink ≤ new.sink)
+HasCauseIn old new SinkFault =
+    Rose old.sink new.sink × (new.tree ≡ old.tree) × (new.store ≡ old.store)
+    × (old.start ≤ new.start)
+HasCauseIn old new OutOfMemory =
+    (new.tree ≡ old.tree) × (new.store ≡ old.store) × (old.start ≤ new.start)
+    × (new.sink ≡ old.sink)
 
 -- no count rose, and none stood at the last value of a u64
 pub record IsQuiet (old new : FaultCounts) : Type 0 where

@@ -12,8 +12,8 @@ use Rattle.refusals.specs.declared.refusal.Refusal.TheVariants as refusal
 use Rattle.record_log.specs.Frames.{Fault, reading}
 use Rattle.artifact_store.specs.declared.error.OpenErr.{OpenErr}
 use Rattle.artifact_store.specs.declared.error.OpenErr.TheVariants as opening
-use Rattle.runner.specs.declared.error.RunErr.{RunErr}
-use Rattle.runner.specs.declared.error.RunErr.TheVariants as run
+use Rattle.task_devices.specs.declared.error.RunErr.{RunErr}
+use Rattle.task_devices.specs.declared.error.RunErr.TheVariants as run
 use Rattle.turbo_app.specs.declared.answer.Answer.{Answer}
 use Rattle.turbo_app.specs.declared.answer.Answer.TheVariants.{TreeFault, StoreFault, StartFault, SinkFault}
 use Rattle.turbo_app.specs.declared.answer.Answer.TheVariants as answer

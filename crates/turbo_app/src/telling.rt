@@ -1,9 +1,9 @@
 // What is printed in the place of a run.
-ghost use Rattle.std.specs.Prelude.{◌≡◌, ◌++◌, ◌≤◌, ℕ, true};
+ghost use Rattle.std.specs.Prelude.{◌≡◌, ◌++◌, ◌≤◌, ℕ};
 ghost use Rattle.refusals.specs.Refusals.{line_of, refusal_text, device_fault_line};
 ghost use Rattle.turbo_app.specs.Answers.{IfDone, IfRefused, HasCauseIn, counts_of};
 ghost use Rattle.turbo_app.specs.Outcomes.{usage};
-ghost use Rattle.turbo_app.specs.Stops.{IfFault, PrintsSome};
+ghost use Rattle.turbo_app.specs.Stops.{IfFault, CutsText, PrintsSome};
 
 use crate::Answer;
 use page::{PageErr, emit};
@@ -17,9 +17,13 @@ const USAGE: &str = "usage: turbo [run] <task>... [options] [-- words]\n";
 pub(crate) fn refuse<K: Sink>(alloc: Global, refusal: Refusal, out: &mut K) -> Answer
     ensures not_done { IfDone result (λ _. ⊥) }
     ensures refused { IfRefused result (λ answered. answered ≡ refusal) }
-    ensures line { K.tells → IfRefused result (λ answered. K.written out.new ≡ K.written out.old ++ line_of (refusal_text answered)) }
-    ensures cut { K.tells → IfFault result (λ output_failed _. (output_failed ≡ true) × PrintsSome (line_of (refusal_text refusal)) (K.written out.old) (K.written out.new)) }
-    ensures cause { (tree store start : ℕ) → HasCauseIn (counts_of tree store start (K.faults out.old)) (counts_of tree store start (K.faults out.new)) result }
+    ensures line { K.tells → IfRefused result (λ answered.
+        K.written out.new ≡ K.written out.old ++ line_of (refusal_text answered)) }
+    ensures cut { K.tells → IfFault result (λ cause _.
+        CutsText cause (line_of (refusal_text refusal)) (K.written out.old) (K.written out.new)) }
+    ensures cause { (tree store start : ℕ) → HasCauseIn
+        (counts_of tree store start (K.faults out.old))
+        (counts_of tree store start (K.faults out.new)) result }
 {
     let line = match fault_text(alloc, &refusal) {
         Ok(line) => line,
@@ -36,9 +40,12 @@ pub(crate) fn refuse<K: Sink>(alloc: Global, refusal: Refusal, out: &mut K) -> A
 pub(crate) fn help<K: Sink>(alloc: Global, out: &mut K) -> Answer
     ensures done { K.tells → IfDone result (λ _. K.written out.new ≡ K.written out.old ++ usage) }
     ensures status { IfDone result (λ status. status ≡ 0) }
-    ensures cut { K.tells → IfFault result (λ output_failed _. (output_failed ≡ true) × PrintsSome usage (K.written out.old) (K.written out.new)) }
+    ensures cut { K.tells → IfFault result (λ cause _.
+        CutsText cause usage (K.written out.old) (K.written out.new)) }
     ensures not_refused { IfRefused result (λ _. ⊥) }
-    ensures cause { (tree store start : ℕ) → HasCauseIn (counts_of tree store start (K.faults out.old)) (counts_of tree store start (K.faults out.new)) result }
+    ensures cause { (tree store start : ℕ) → HasCauseIn
+        (counts_of tree store start (K.faults out.old))
+        (counts_of tree store start (K.faults out.new)) result }
 {
     match emit(alloc, out, USAGE.as_bytes()) {
         Ok(()) => Answer::Done { status: 0 },

@@ -1,10 +1,11 @@
 -- Looking at the tree changes nothing that runs.
-use Rattle.std.proofs.Common.{sym, ap, subst, inl, inr, ℕ, Bool, List, Ok, Err}
+use Rattle.std.proofs.Common.{sym, ap, subst, inl, inr, ℕ, List, Ok, Err}
 use Rattle.rel_path.specs.Causes.{Counts}
 use Rattle.spawn_dev.specs.Spawn.{IsIdle}
 use Rattle.cli_words.specs.declared.order.RunOrder.{RunOrder}
 use Rattle.run_laws.specs.Effects.{Book}
 use Rattle.run_plan.specs.declared.plan.Plan.{Plan}
+use Rattle.run_plan.specs.Answers.{Cause}
 use Rattle.plan_laws.specs.Laws.{AsksFor}
 use Rattle.turbo_app.specs.Answers.{HasCauseIn, counts_of}
 use Rattle.turbo_app.specs.Asking.{IsRefusedRun}
@@ -13,7 +14,7 @@ use Rattle.refusals.specs.Stops.{is_failed}
 use Rattle.turbo_app.specs.Steps.{raised, AsksAs}
 use Rattle.turbo_app.specs.Stops.{StopsPlan, StoppedRun}
 use Rattle.turbo_app.proofs.Printed.{if_fault, early_as}
-use Rattle.turbo_app.proofs.top.run_built.Goals as goal
+use Rattle.turbo_app.proofs.run_orders.run_built.Goals as goal
 
 pub run_plan-requires-clause-idle : goal.run_plan-requires-clause-idle
 run_plan-requires-clause-idle g c = subst (λ r. IsIdle r) (sym (g.met.W.Spawner.runs_by_rest _ _ c.asked.ensures.looks.rest)) c.requires.idle
@@ -32,21 +33,28 @@ returns-in-Err-clause-cause g c =
     (c.unplanned.ensures.cause before after (g.S.StoreDevice.store_faults c.args.store) start counts)
 
 -- where the plan was run, or its store not opened
-stops_planned : (order : RunOrder) (env : List (List ℕ × List ℕ)) (plan : Plan) (book : Book) (old : Moment) (after : List ℕ) → AsksFor order env old.files (Ok plan)
-    → (output_failed : Bool) (line : List ℕ) → StopsPlan order.dry book plan old after output_failed line → StoppedRun (IsRefusedRun order env old.files old.stored) order book env old after output_failed line
-stops_planned order env plan book old after asks output_failed line (inl early) =
-    inl (early_as _ _ (λ reason no. inr (record { plan = plan; asks = asks; fault = no.fault; reads = no.reads; is = no.is })) old.printed after output_failed line early)
-stops_planned order env plan book old after asks output_failed line (inr stops) = inr (record { plan = plan; asks = asks; pairs = stops.0; opened = stops.1; stops = stops.2 })
+stops_planned : (order : RunOrder) (env : List (List ℕ × List ℕ)) (plan : Plan) (book : Book)
+    (Heard : Type 0) (old new : Moment) → AsksFor order env old.files (Ok plan)
+    → (cause : Cause) (line : List ℕ)
+    → StopsPlan order.dry book plan Heard old new cause line
+    → StoppedRun (IsRefusedRun order env old.files old.stored) order book env Heard old new
+    cause line
+stops_planned order env plan book Heard old new asks cause line (inl early) =
+    inl (early_as _ _
+    (λ reason no. inr (record { plan = plan; asks = asks; fault = no.fault; reads = no.reads; is = no.is }))
+    old.printed new.printed cause line early)
+stops_planned order env plan book Heard old new asks cause line (inr stops) =
+    inr (record { plan = plan; asks = asks; pairs = stops.0; opened = stops.1; stops = stops.2 })
 
 pub returns-in-Ok-clause-stopped : goal.returns-in-Ok-clause-stopped
 returns-in-Ok-clause-stopped g c told store heard =
     let runs = g.met.W.Spawner.runs_by_rest _ _ c.asked.ensures.looks.rest in
     let stopped = c.run_plan.ensures.stopped told store heard in
     let known = rw (runs, c.asked.ensures.looks.files) at stopped in
-    if_fault c.run_plan.result.0 _ _ (stops_planned c.args.order.now c.args.env.now c.in-Ok.plan _ _ _ (c.in-Ok.ensures.asks told)) known
+    if_fault c.run_plan.result.0 _ _ (stops_planned c.args.order.now c.args.env.now c.in-Ok.plan _ _ _ _ (c.in-Ok.ensures.asks told)) known
 
 pub returns-in-Err-clause-stopped : goal.returns-in-Err-clause-stopped
 returns-in-Err-clause-stopped g c told store heard =
     if_fault c.unplanned.result _ _
-    (λ output_failed line early. inl (early_as _ _ (λ reason is. inl (subst (λ stop. AsksAs c.args.order.now c.args.env.now (g.W.Tree.state c.args.world.now).files (Err stop)) is (c.in-Err.ensures.asks told))) _ _ output_failed line early))
+    (λ cause line early. inl (early_as _ _ (λ reason is. inl (subst (λ stop. AsksAs c.args.order.now c.args.env.now (g.W.Tree.state c.args.world.now).files (Err stop)) is (c.in-Err.ensures.asks told))) _ _ cause line early))
     (c.unplanned.ensures.stopped heard)

@@ -1,11 +1,11 @@
 -- Where a store is refused the device's count stayed.
-use Rattle.std.proofs.Common.{refl, sym, subst, inr}
+use Rattle.std.proofs.Common.{refl, sym, subst}
 use Rattle.rel_path.specs.Causes.{Counts}
 use Rattle.artifact_store.specs.Answers.{is_fault, raised}
 use Rattle.refusals.specs.declared.refusal.Refusal.TheVariants.{NotAStore, Damaged}
 use Rattle.turbo_app.specs.Answers.{HasCauseIn, counts_of}
-use Rattle.turbo_app.proofs.Printed.{if_fault}
-use Rattle.turbo_app.proofs.running.unopened.Goals as goal
+use Rattle.turbo_app.proofs.Printed.{if_fault, cuts_as, cut_early}
+use Rattle.turbo_app.proofs.over_store.unopened.Goals as goal
 
 pub returns-in-NotAStore-clause-cause : goal.returns-in-NotAStore-clause-cause
 returns-in-NotAStore-clause-cause g c = λ tree start before after counts.
@@ -19,8 +19,8 @@ returns-in-Damaged-clause-cause g c = λ tree start before after counts.
 
 pub returns-in-NotAStore-clause-stopped : goal.returns-in-NotAStore-clause-stopped
 returns-in-NotAStore-clause-stopped g c heard =
-    if_fault c.refuse.result _ _ (λ output_failed line cut. inr (cut.0, NotAStore, rw c.in-NotAStore.is refl, cut.1)) (c.refuse.ensures.cut heard)
+    if_fault c.refuse.result _ _ (λ cause line cut. cut_early _ _ _ cause line (cuts_as _ NotAStore (rw c.in-NotAStore.is refl) _ _ cause cut)) (c.refuse.ensures.cut heard)
 
 pub returns-in-Damaged-clause-stopped : goal.returns-in-Damaged-clause-stopped
 returns-in-Damaged-clause-stopped g c heard =
-    if_fault c.refuse-in-Damaged.result _ _ (λ output_failed line cut. inr (cut.0, Damaged c.in-Damaged.at, rw c.in-Damaged.is refl, cut.1)) (c.refuse-in-Damaged.ensures.cut heard)
+    if_fault c.refuse-in-Damaged.result _ _ (λ cause line cut. cut_early _ _ _ cause line (cuts_as _ (Damaged c.in-Damaged.at) (rw c.in-Damaged.is refl) _ _ cause cut)) (c.refuse-in-Damaged.ensures.cut heard)

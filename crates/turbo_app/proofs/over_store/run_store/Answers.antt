@@ -1,5 +1,5 @@
 -- What stopped, dry or not.
-use Rattle.std.proofs.Common.{◌≡◌, ℕ, Bool, true, false, List, refl, ◌∙◌, ap, Some}
+use Rattle.std.proofs.Common.{◌≡◌, Bool, true, false, List, refl, ◌∙◌, ap, Some}
 use Rattle.listing.specs.KeyText.{Fits}
 use Rattle.cache_api.specs.Pairs.{Pair}
 use Rattle.run_laws.specs.Effects.{Book}
@@ -10,13 +10,12 @@ use Rattle.run_plan.specs.declared.plan.Plan.{Plan}
 use Rattle.run_plan.specs.Openings.{Opening, setting_of}
 use Rattle.runner.specs.Answers.{opening_of}
 use Rattle.artifact_store.specs.Store.{state_of}
-use Rattle.artifact_store.specs.Pairs.{stands_for}
 use Rattle.turbo_app.specs.Answers.{IfDone}
 use Rattle.turbo_app.specs.Outcomes.{Moment, moment_of, RanAs, RanPlan, RanPlanDry}
 use Rattle.turbo_app.specs.Stops.{IfFault, StopsRun}
-use Rattle.turbo_app.proofs.Printed.{within}
+use Rattle.turbo_app.proofs.Printed.{if_fault, within}
 use Rattle.turbo_app.proofs.Finished.{dry_done, live_done}
-use Rattle.turbo_app.proofs.running.run_store.Goals as goal
+use Rattle.turbo_app.proofs.over_store.run_store.Goals as goal
 
 pub returns-clause-stopped : goal.returns-clause-stopped
 returns-clause-stopped g c told store heard stored = by c.args.is_dry refl
@@ -31,15 +30,15 @@ returns-clause-stopped g c told store heard stored = by c.args.is_dry refl
     book = g.W.Spawner.effect (g.W.Spawner.runs c.args.world.now).book
 
     old : Moment
-    old = moment_of (g.W.Tree.state c.args.world.now).files (g.W.Spawner.runs c.args.world.now).steps stored (g.K.Sink.written c.args.out.now)
+    old = moment_of (g.W.Tree.state c.args.world.now) (g.W.Spawner.runs c.args.world.now) stored (g.K.Sink.written c.args.out.now)
 
-    after : List ℕ
-    after = g.K.Sink.written c.run_over-answer.new.out
+    new : Moment
+    new = moment_of (g.W.Tree.state c.run_over-answer.new.world) (g.W.Spawner.runs c.run_over-answer.new.world) (g.S.StoreDevice.content c.device.result) (g.K.Sink.written c.run_over-answer.new.out)
 
     opening : Opening
-    opening = opening_of g.W.Spawner.effect (g.W.Spawner.runs c.args.world.now) (g.W.Tree.state c.args.world.now).files pairs
+    opening = opening_of g.W.Spawner.effect (g.W.Spawner.runs c.args.world.now) (g.W.Tree.state c.args.world.now) (state_of c.args.store)
 
-    is_ready : IsStorable book → Fits plan.listing → IsGood book pairs → IsReady (setting_of plan opening)
+    is_ready : IsStorable plan.mode book plan.listing → Fits plan.listing → IsGood book pairs → IsReady (setting_of plan opening)
     is_ready storable fits good = record {
       valid = record { ordered = c.requires.plan.ordered; fits = fits };
       apart = c.requires.plan.apart;
@@ -49,11 +48,15 @@ returns-clause-stopped g c told store heard stored = by c.args.is_dry refl
       inputs = c.requires.inputs told;
     }
 
-    by : (dry : Bool) → c.args.is_dry ≡ dry → IfFault c.run_over-answer.result (StopsRun dry book plan pairs old after)
-    by true is = rw is at (c.run_over-answer.ensures.dry_stopped store heard)
+    by : (dry : Bool) → c.args.is_dry ≡ dry → IfFault c.run_over-answer.result (StopsRun dry book plan pairs g.K.Sink.tells old new)
+    by true is =
+        let files = rw is at c.run_over-answer.ensures.dry_files in
+        let steps = rw is at c.run_over-answer.ensures.dry_steps in
+        if_fault c.run_over-answer.result _ _ (λ cause line stops. (files, steps, stops)) (rw is at (c.run_over-answer.ensures.dry_stopped store heard))
     by false is =
         let live = rw is at (c.run_over-answer.ensures.stopped told store heard) in
-        within c.run_over-answer.result (IsStorable book) _ (λ storable. within c.run_over-answer.result (Fits plan.listing) _ (λ fits. within c.run_over-answer.result (IsGood book pairs) _ (λ good. live (is_ready storable fits good))))
+        within c.run_over-answer.result (IsStorable plan.mode book plan.listing) _ (λ storable. within c.run_over-answer.result (Fits plan.listing) _ (λ fits. within c.run_over-answer.result (IsGood book pairs) _
+        (λ good. if_fault c.run_over-answer.result _ _ (λ cause line stops. ((state_of c.run_over-answer.new.cache).room, (state_of c.run_over-answer.new.cache).pairs, stops)) (live (is_ready storable fits good)))))
 
 pub returns-clause-ran : goal.returns-clause-ran
 returns-clause-ran g c told store stored opened = by c.args.is_dry refl
@@ -68,15 +71,15 @@ returns-clause-ran g c told store stored opened = by c.args.is_dry refl
     book = g.W.Spawner.effect (g.W.Spawner.runs c.args.world.now).book
 
     old : Moment
-    old = moment_of (g.W.Tree.state c.args.world.now).files (g.W.Spawner.runs c.args.world.now).steps stored (g.K.Sink.written c.args.out.now)
+    old = moment_of (g.W.Tree.state c.args.world.now) (g.W.Spawner.runs c.args.world.now) stored (g.K.Sink.written c.args.out.now)
 
     new : Moment
-    new = moment_of (g.W.Tree.state c.run_over-answer.new.world).files (g.W.Spawner.runs c.run_over-answer.new.world).steps (g.S.StoreDevice.content c.device.result) (g.K.Sink.written c.run_over-answer.new.out)
+    new = moment_of (g.W.Tree.state c.run_over-answer.new.world) (g.W.Spawner.runs c.run_over-answer.new.world) (g.S.StoreDevice.content c.device.result) (g.K.Sink.written c.run_over-answer.new.out)
 
     opening : Opening
-    opening = opening_of g.W.Spawner.effect (g.W.Spawner.runs c.args.world.now) (g.W.Tree.state c.args.world.now).files pairs
+    opening = opening_of g.W.Spawner.effect (g.W.Spawner.runs c.args.world.now) (g.W.Tree.state c.args.world.now) (state_of c.args.store)
 
-    is_ready : IsStorable book → Fits plan.listing → IsGood book pairs → IsReady (setting_of plan opening)
+    is_ready : IsStorable plan.mode book plan.listing → Fits plan.listing → IsGood book pairs → IsReady (setting_of plan opening)
     is_ready storable fits good = record {
       valid = record { ordered = c.requires.plan.ordered; fits = fits };
       apart = c.requires.plan.apart;
@@ -106,5 +109,6 @@ returns-clause-ran g c told store stored opened = by c.args.is_dry refl
           after = (state_of c.run_over-answer.new.cache).pairs;
           left = c.device.ensures.pairs store whole;
           room = (state_of c.run_over-answer.new.cache).room;
+          room_is = c.device.ensures.free store whole;
           ran = λ storable fits good. ran (is_ready storable fits good);
         })

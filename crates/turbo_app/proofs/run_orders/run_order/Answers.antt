@@ -1,11 +1,11 @@
 -- What is not built is refused, and all else is done.
-use Rattle.std.proofs.Common.{◌≡◌, Some, None, inl, inr, refl, rules}
+use Rattle.std.proofs.Common.{◌≡◌, Some, None, inl, refl, rules}
 use Rattle.refusals.specs.declared.refusal.Refusal.TheVariants as refusal
 use Rattle.turbo_app.specs.Asking.{unbuilt_run}
 use Rattle.turbo_app.proofs.Only.{only_refused}
-use Rattle.turbo_app.proofs.Printed.{if_fault}
+use Rattle.turbo_app.proofs.Printed.{if_fault, cuts_as, cut_early}
 use Rattle.turbo_app.proofs.NotBuilt.{not_done, if_refused, nothing_but, unbuilt_refused, built_refused, refused_unbuilt, refused_built, stopped_built}
-use Rattle.turbo_app.proofs.top.run_order.Goals as goal
+use Rattle.turbo_app.proofs.run_orders.run_order.Goals as goal
 
 pub returns-in-Some-clause-ran : goal.returns-in-Some-clause-ran
 returns-in-Some-clause-ran g c told store = not_done c.refuse.result _ c.refuse.ensures.not_done
@@ -23,7 +23,10 @@ returns-in-Some-clause-only g c told store reason refused =
 pub returns-in-Some-clause-stopped : goal.returns-in-Some-clause-stopped
 returns-in-Some-clause-stopped g c told store heard =
     let is : unbuilt_run c.args.order.now ≡ Some c.in-Some.form = search rules in
-    if_fault c.refuse.result _ _ (λ output_failed line cut. inl (inr (cut.0, refusal.NotBuilt c.in-Some.form, unbuilt_refused c.args.order.now c.args.env.now _ _ c.in-Some.form is _ refl, cut.1))) (c.refuse.ensures.cut heard)
+    if_fault c.refuse.result _ _
+    (λ cause line cut. inl (cut_early _ _ _ cause line (cuts_as _ (refusal.NotBuilt c.in-Some.form)
+    (unbuilt_refused c.args.order.now c.args.env.now _ _ c.in-Some.form is _ refl) _ _ cause cut)))
+    (c.refuse.ensures.cut heard)
 
 pub returns-in-Some-clause-cause : goal.returns-in-Some-clause-cause
 returns-in-Some-clause-cause g c = c.refuse.ensures.cause (g.W.Tree.state c.args.world.now).faults (g.S.StoreDevice.store_faults c.args.store) (g.W.Spawner.runs c.args.world.now).faults
@@ -42,4 +45,4 @@ returns-in-None-clause-only g c told store reason refused =
 pub returns-in-None-clause-stopped : goal.returns-in-None-clause-stopped
 returns-in-None-clause-stopped g c told store heard =
     let is : unbuilt_run c.args.order.now ≡ None = search rules in
-    if_fault c.run_built.result.0 _ _ (stopped_built c.args.order.now c.args.env.now _ _ _ is) (c.run_built.ensures.stopped told store heard)
+    if_fault c.run_built.result.0 _ _ (stopped_built c.args.order.now c.args.env.now _ _ _ _ is) (c.run_built.ensures.stopped told store heard)

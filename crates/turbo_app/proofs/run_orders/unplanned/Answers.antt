@@ -4,7 +4,7 @@ use Rattle.rel_path.specs.Causes.{Counts}
 use Rattle.turbo_app.specs.Answers.{HasCauseIn, counts_of}
 use Rattle.refusals.specs.Stops.{is_failed}
 use Rattle.turbo_app.specs.Steps.{raised}
-use Rattle.turbo_app.proofs.top.unplanned.Goals as goal
+use Rattle.turbo_app.proofs.run_orders.unplanned.Goals as goal
 
 pub returns-in-Refused-clause-cause : goal.returns-in-Refused-clause-cause
 returns-in-Refused-clause-cause g c = λ before after store start counts.

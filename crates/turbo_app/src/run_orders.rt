@@ -1,0 +1,157 @@
+// Orders to run.
+ghost use Rattle.std.specs.Prelude.{◌≡◌, ◌++◌, ◌<◌, ◌≤◌, ℕ, length, Ok};
+ghost use Rattle.rel_path.specs.Causes.{Counts};
+ghost use Rattle.rel_path.specs.Limits.{width_limit};
+ghost use Rattle.spawn_dev.specs.Spawn.{IsIdle};
+ghost use Rattle.cli_words.specs.declared.order.Order.TheVariants.{Run};
+ghost use Rattle.refusals.specs.Refusals.{line_of, refusal_text};
+ghost use Rattle.refusals.specs.Stops.{is_failed};
+ghost use Rattle.turbo_app.specs.Answers.{IfDone, IfRefused, HasCauseIn, counts_at, counts_of};
+ghost use Rattle.turbo_app.specs.Asking.{IsRefusedOrder, IsRefusedRun, HasNoOtherBy};
+ghost use Rattle.turbo_app.specs.Outcomes.{RanOrder, MayChangeBy, moment_of};
+ghost use Rattle.turbo_app.specs.Steps.{raised};
+ghost use Rattle.turbo_app.specs.Stops.{IfFault, StopsEarly, StoppedBy, StoppedRun};
+
+use crate::Answer;
+use crate::asking::asked;
+use crate::over_store::run_plan;
+use crate::telling::{refuse, tell};
+use crate::unbuilt::unbuilt_run;
+use cli_words::RunOrder;
+use plan_laws::order_law;
+use refusals::{DeviceFault, Refusal, Stop};
+use rel_path::Text;
+use spawn_dev::Spawner;
+use std::alloc::Global;
+use store_dev::StoreDevice;
+use tree_dev::Sink;
+
+/// Answers why there is no plan.
+fn unplanned<K: Sink>(alloc: Global, stop: Stop, out: &mut K) -> Answer
+    ensures not_done { IfDone result (λ _. ⊥) }
+    ensures refused { IfRefused result (λ reason. stop ≡ Stop.Refused reason) }
+    ensures line { K.tells → IfRefused result (λ reason.
+        K.written out.new ≡ K.written out.old ++ line_of (refusal_text reason)) }
+    ensures stopped { K.tells → IfFault result (StopsEarly (λ reason. stop ≡ Stop.Refused reason)
+        (K.written out.old) (K.written out.new)) }
+    ensures cause { (before after store start : ℕ) → Counts is_failed before after (raised stop)
+        → HasCauseIn (counts_of before store start (K.faults out.old))
+        (counts_of after store start (K.faults out.new)) result }
+{
+    match stop {
+        Stop::Refused(reason) => refuse(alloc, reason, out),
+        Stop::Failed => {
+            tell(alloc, DeviceFault::Tree, out);
+            Answer::TreeFault
+        }
+        Stop::OutOfMemory => Answer::OutOfMemory,
+    }
+}
+
+/// Does what an order to run asks for that is built.
+fn run_built<W: Spawner, S: StoreDevice, K: Sink>(
+    alloc: Global,
+    order: &RunOrder,
+    env: &[(Text, Text)],
+    world: &mut W,
+    store: S,
+    out: &mut K,
+) -> (Answer, S)
+    requires idle { IsIdle (W.runs world.old) }
+    requires wide { 0 < order.now.width }
+    requires narrow { order.now.width ≤ width_limit }
+
+    // What came to its end.
+    ensures ran { W.tells → S.tells → IfDone result.0
+        (RanOrder (W.effect (W.runs world.old).book) order.now env.now K.tells
+        (moment_of (W.state world.old) (W.runs world.old) (S.content store) (K.written out.old))
+        (moment_of (W.state world.new) (W.runs world.new) (S.content result.1) (K.written out.new))) }
+
+    // What was refused.
+    ensures refused { W.tells → S.tells → IfRefused result.0
+        (IsRefusedRun order.now env.now (W.state world.old).files (S.content store)) }
+    ensures unstarted { IfRefused result.0 (λ _. W.runs world.new ≡ W.runs world.old) }
+    ensures untouched { IfRefused result.0 (λ _.
+        (W.state world.new).files ≡ (W.state world.old).files) }
+    ensures same { S.tells → 9 < length (S.content store)
+        → IfRefused result.0 (λ _. S.content result.1 ≡ S.content store) }
+    ensures line { K.tells → IfRefused result.0 (λ reason.
+        K.written out.new ≡ K.written out.old ++ line_of (refusal_text reason)) }
+
+    // What was stopped.
+    ensures stopped { W.tells → S.tells → K.tells → IfFault result.0 (StoppedRun
+        (IsRefusedRun order.now env.now (W.state world.old).files (S.content store))
+        order.now (W.effect (W.runs world.old).book) env.now K.tells
+        (moment_of (W.state world.old) (W.runs world.old) (S.content store) (K.written out.old))
+        (moment_of (W.state world.new) (W.runs world.new) (S.content result.1) (K.written out.new))) }
+
+    // Whatever it answers.
+    ensures idle { IsIdle (W.runs world.new) }
+    ensures book { (W.runs world.new).book ≡ (W.runs world.old).book }
+    ensures elsewhere { W.tells → MayChangeBy (Ok (Run order.now)) env.now
+        (W.state world.old).files (W.state world.new).files }
+    ensures cause { HasCauseIn
+        (counts_at (W.state world.old) (W.runs world.old) (S.store_faults store) (K.faults out.old))
+        (counts_at (W.state world.new) (W.runs world.new) (S.store_faults result.1)
+        (K.faults out.new)) result.0 }
+{
+    match asked(alloc, world, order, env) {
+        Ok(plan) => run_plan(alloc, order.dry, &plan, world, store, out),
+        Err(stop) => (unplanned(alloc, stop, out), store),
+    }
+}
+
+/// Does what `turbo` does with words that are an order to run. What is not built is refused before anything is read.
+pub fn run_order<W: Spawner, S: StoreDevice, K: Sink>(
+    alloc: Global,
+    order: &RunOrder,
+    env: &[(Text, Text)],
+    world: &mut W,
+    store: S,
+    out: &mut K,
+) -> (Answer, S)
+    requires idle { IsIdle (W.runs world.old) }
+    requires wide { 0 < order.now.width }
+    requires narrow { order.now.width ≤ width_limit }
+
+    // What came to its end.
+    ensures ran { W.tells → S.tells → IfDone result.0
+        (RanOrder (W.effect (W.runs world.old).book) order.now env.now K.tells
+        (moment_of (W.state world.old) (W.runs world.old) (S.content store) (K.written out.old))
+        (moment_of (W.state world.new) (W.runs world.new) (S.content result.1) (K.written out.new))) }
+
+    // What was refused.
+    ensures refused { W.tells → S.tells → IfRefused result.0 (IsRefusedOrder (Ok (Run order.now))
+        env.now (W.state world.old).files (S.content store)) }
+    ensures only { W.tells → S.tells → HasNoOtherBy (Ok (Run order.now)) env.now
+        (W.state world.old).files (S.content store) result.0 }
+    ensures unstarted { IfRefused result.0 (λ _. W.runs world.new ≡ W.runs world.old) }
+    ensures untouched { IfRefused result.0 (λ _.
+        (W.state world.new).files ≡ (W.state world.old).files) }
+    ensures same { S.tells → 9 < length (S.content store)
+        → IfRefused result.0 (λ _. S.content result.1 ≡ S.content store) }
+    ensures line { K.tells → IfRefused result.0 (λ reason.
+        K.written out.new ≡ K.written out.old ++ line_of (refusal_text reason)) }
+
+    // What was stopped.
+    ensures stopped { W.tells → S.tells → K.tells → IfFault result.0
+        (StoppedBy (Ok (Run order.now)) (W.effect (W.runs world.old).book) env.now K.tells
+        (moment_of (W.state world.old) (W.runs world.old) (S.content store) (K.written out.old))
+        (moment_of (W.state world.new) (W.runs world.new) (S.content result.1) (K.written out.new))) }
+
+    // Whatever it answers.
+    ensures idle { IsIdle (W.runs world.new) }
+    ensures book { (W.runs world.new).book ≡ (W.runs world.old).book }
+    ensures elsewhere { W.tells → MayChangeBy (Ok (Run order.now)) env.now
+        (W.state world.old).files (W.state world.new).files }
+    ensures cause { HasCauseIn
+        (counts_at (W.state world.old) (W.runs world.old) (S.store_faults store) (K.faults out.old))
+        (counts_at (W.state world.new) (W.runs world.new) (S.store_faults result.1)
+        (K.faults out.new)) result.0 }
+{
+    order_law();
+    match unbuilt_run(order) {
+        Some(form) => (refuse(alloc, Refusal::NotBuilt { form }, out), store),
+        None => run_built(alloc, order, env, world, store, out),
+    }
+}
