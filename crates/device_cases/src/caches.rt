@@ -4,7 +4,7 @@ use crate::devices::{crashed, device_of};
 use crate::parts;
 use crate::sessions::session;
 use anyhow::{Result, anyhow};
-use artifact_store::{OpenErr, Store};
+use artifact_store::{Numbers, OpenErr, SeenPairs, Store};
 use cache_api::{Artifact, Cache, CacheErr, Hit, HitFile, Key, NewPair, Put};
 use case_files::{answers, inputs};
 use globs::{GlobList, GlobLists, OutSet};
@@ -16,7 +16,8 @@ use store_dev::{FuseStore, MemStore, StoreDevice};
 // The folder of the task whose results are looked for.
 const FOLDER: &str = "a";
 
-fn open_fault(alloc: Global, fault: OpenErr) -> Result<Value> {
+/// Why a device is not opened as a store.
+pub fn open_fault(alloc: Global, fault: OpenErr) -> Result<Value> {
     match fault {
         OpenErr::NotAStore => answers::error(alloc, "NotAStore"),
         OpenErr::Damaged { at } => answers::error_at(alloc, "Damaged", at),
@@ -107,6 +108,41 @@ fn lookup<S: StoreDevice>(
     }
 }
 
+// The pairs that a look-up is to see: the first so many (`first`), and those with some numbers
+// (`own`).
+fn seen_of(alloc: Global, call: &Value) -> Result<SeenPairs> {
+    let mut numbers = Vec::new(alloc);
+    for number in inputs::list(call, "own")? {
+        numbers.push(number.as_u64().unwrap_or(u64::MAX))?;
+    }
+    let Some(own) = Numbers::from_vec(numbers) else {
+        return Err(anyhow!("numbers that don't ascend"));
+    };
+    let first = inputs::number(call, "first")?;
+    Ok(SeenPairs { first, own })
+}
+
+// The artifact that is found among these pairs alone.
+fn find_seen<S: StoreDevice>(
+    alloc: Global,
+    store: &mut Store<S>,
+    key: &[u8],
+    outs: &OutSet,
+    seen: &SeenPairs,
+) -> Result<Value> {
+    if !store.whole() {
+        return Err(anyhow!("a put that failed came before"));
+    }
+    match store.lookup_seen(alloc, Key::new(key), outs, seen) {
+        Ok(Some(hit)) => match store.hit_artifact(alloc, &hit) {
+            Ok(artifact) => shown(alloc, &artifact),
+            Err(error) => fault(alloc, error),
+        },
+        Ok(None) => Ok(Value::Null),
+        Err(error) => fault(alloc, error),
+    }
+}
+
 fn came_of(alloc: Global, put: Put) -> Result<Value> {
     match put {
         Put::Stored => answers::text(alloc, "ok"),
@@ -151,7 +187,8 @@ fn put_pairs<S: StoreDevice>(alloc: Global, store: &mut Store<S>, call: &Value) 
     put_all(alloc, store, keys.as_slice(), artifacts.as_slice())
 }
 
-fn outs_of(alloc: Global, case: &Value) -> Result<OutSet> {
+/// The outputs of the task for which results are looked up.
+pub fn outs_of(alloc: Global, case: &Value) -> Result<OutSet> {
     Ok(OutSet {
         folder: RelPath::read(alloc, FOLDER)?,
         mine: GlobList::read(alloc, &inputs::texts(alloc, case, "outputs")?)?,
@@ -159,9 +196,9 @@ fn outs_of(alloc: Global, case: &Value) -> Result<OutSet> {
     })
 }
 
-fn call_of(
+fn call_of<S: StoreDevice>(
     alloc: Global,
-    store: &mut Store<FuseStore>,
+    store: &mut Store<S>,
     outs: &OutSet,
     call: &Value,
 ) -> Result<Value> {
@@ -173,20 +210,25 @@ fn call_of(
         "put_all" => put_pairs(alloc, store, call),
         "find" => find(alloc, store, &parts::bytes(alloc, call, "key")?, outs),
         "lookup" => lookup(alloc, store, &parts::bytes(alloc, call, "key")?, outs),
+        "lookup_seen" => {
+            let key = parts::bytes(alloc, call, "key")?;
+            find_seen(alloc, store, &key, outs, &seen_of(alloc, call)?)
+        }
         "whole" => Ok(Value::from(store.whole())),
+        "count" => Ok(Value::from(store.count())),
         _ => Err(anyhow!("no such call")),
     }
 }
 
-// What the calls answer, up to one behind which the store is not whole.
-fn calls(
+/// What calls answer, up to one behind which the store is not whole.
+pub fn calls<S: StoreDevice>(
     alloc: Global,
-    store: &mut Store<FuseStore>,
+    store: &mut Store<S>,
     outs: &OutSet,
-    case: &Value,
+    list: &[Value],
 ) -> Result<Value> {
     let mut found = Vec::new(alloc);
-    for call in inputs::list(case, "calls")? {
+    for call in list {
         if store.whole() || inputs::text(call, "call")? == "whole" {
             found.push(call_of(alloc, store, outs, call)?)?;
         }
@@ -199,7 +241,7 @@ fn used(alloc: Global, case: &Value, outs: &OutSet) -> Result<(Value, FuseStore)
     match Store::open(alloc, device_of(alloc, case, bytes)?) {
         Ok(opened) => {
             let mut store = opened;
-            let found = calls(alloc, &mut store, outs, case)?;
+            let found = calls(alloc, &mut store, outs, inputs::list(case, "calls")?)?;
             Ok((found, store.device()))
         }
         Err(unopened) => Ok((open_fault(alloc, unopened.fault)?, unopened.store)),
@@ -246,6 +288,22 @@ fn left(alloc: Global, device: &FuseStore, case: &Value) -> Result<Vec<u8>> {
     }
 }
 
+/// These answers; and what a later run finds in the bytes for keys (`later`), or else the bytes.
+pub fn behind(
+    alloc: Global,
+    found: Value,
+    bytes: &[u8],
+    outs: &OutSet,
+    case: &Value,
+) -> Result<Value> {
+    if inputs::optional(case, "later").is_some() {
+        let later = found_later(alloc, bytes, case, outs)?;
+        return Ok(json!(in alloc; {"answers": found, "later": later})?);
+    }
+    let bytes = answers::bytes(alloc, bytes)?;
+    Ok(json!(in alloc; {"answers": found, "bytes": bytes})?)
+}
+
 /// What the calls answer; and what a later run finds for keys (`later`), or else the bytes behind the calls.
 pub fn answer(alloc: Global, case: &Value) -> Result<Value> {
     let outs = outs_of(alloc, case)?;
@@ -254,10 +312,5 @@ pub fn answer(alloc: Global, case: &Value) -> Result<Value> {
         None => used(alloc, case, &outs)?,
     };
     let bytes = left(alloc, &device, case)?;
-    if inputs::optional(case, "later").is_some() {
-        let later = found_later(alloc, &bytes, case, &outs)?;
-        return Ok(json!(in alloc; {"answers": found, "later": later})?);
-    }
-    let bytes = answers::bytes(alloc, &bytes)?;
-    Ok(json!(in alloc; {"answers": found, "bytes": bytes})?)
+    behind(alloc, found, &bytes, &outs, case)
 }

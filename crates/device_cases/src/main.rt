@@ -8,11 +8,13 @@ mod artifacts;
 mod caches;
 mod devices;
 mod logs;
+mod marks;
 mod parts;
 mod rooms;
 mod sessions;
 mod sinks;
 mod trees;
+mod untold;
 
 use anyhow::Result;
 use case_files::print_section;
@@ -23,6 +25,7 @@ fn print_stores(rt: &HostRuntime, folder: &str) -> Result<()> {
     print_section(rt, folder, "logs", logs::answer)?;
     print_section(rt, folder, "artifacts", artifacts::answer)?;
     print_section(rt, folder, "caches", caches::answer)?;
+    print_section(rt, folder, "marks", marks::answer)?;
     print_section(rt, folder, "rooms", rooms::answer)
 }
 

@@ -49,11 +49,17 @@ pub fn byte(case: &Value, name: &str) -> Result<u8> {
 /// The bytes of that name, over which the changes of the case are written.
 pub fn changed(alloc: Global, case: &Value, name: &str) -> Result<Vec<u8>> {
     let mut all = bytes(alloc, case, name)?;
+    change(alloc, &mut all, case)?;
+    Ok(all)
+}
+
+/// Writes the changes of the case over the bytes.
+pub fn change(alloc: Global, all: &mut [u8], case: &Value) -> Result<()> {
     for change in inputs::list(case, "changes")? {
         let new = bytes(alloc, change, "bytes")?;
-        write_over(&mut all, inputs::number(change, "at")? as usize, &new);
+        write_over(all, inputs::number(change, "at")? as usize, &new);
     }
-    Ok(all)
+    Ok(())
 }
 
 // What would stand behind the end is left out.

@@ -16,7 +16,7 @@ returns-in-Err g c told =
     let s = g.S.StoreDevice in
     let images = s.images c.args.device in
     let pair : Pair = pair_for c.args.key.now (artifact c.args.artifact.now) in
-    leaves_more s.moment s.images_since c.args.device c.in-Err.unopened.store (ReadsAsOneOf images) (IsLeftBy images pair) (c.in-Err.ensures.images_err told) (opened images pair)
+    leaves_more s.moment s.images_since c.args.device c.in-Err.unopened.store (ReadsAsOneOf images) (IsLeftBy images pair) (c.in-Err.ensures.unopened.images told) (opened images pair)
 
 pub returns-in-Ok : goal.returns-in-Ok
 returns-in-Ok g c told =
@@ -27,4 +27,4 @@ returns-in-Ok g c told =
     let Q : List ℕ → Type 0 = λ c. IsWithOrWithout state.pairs pair (told_as state.base c) in
     let kept = at_device c.in-Ok.opened c.keep.new.cache Q (c.keep.ensures told) in
     let next = subst (λ (d : g.row.S.Denot). LeavesOnly s.moment s.images_since (device_of c.in-Ok.opened) d Q) (sym c.device.ensures.device) kept in
-    leaves_then s.moment s.images_since c.args.device (device_of c.in-Ok.opened) c.device.result (ReadsAsOneOf images) Q (IsLeftBy images pair) (c.in-Ok.ensures.images_ok told) next (opened images pair) (added images pair (s.content c.args.device) state.pairs (g.met.S.StoreDevice.as_it_reads c.args.device told) (c.in-Ok.ensures.pairs told) state.base)
+    leaves_then s.moment s.images_since c.args.device (device_of c.in-Ok.opened) c.device.result (ReadsAsOneOf images) Q (IsLeftBy images pair) (c.in-Ok.ensures.opened.images told) next (opened images pair) (added images pair (s.content c.args.device) state.pairs (g.met.S.StoreDevice.as_it_reads c.args.device told) (c.in-Ok.ensures.opened.pairs told) state.base)
