@@ -20,13 +20,13 @@ use Rattle.run_plan.specs.Plans.{IsValidPlan}
 use Rattle.run_plan.specs.StoryLaws.{EndsNow, TellsGood}
 use Rattle.run_plan.proofs.Closing.{script-below}
 use Rattle.task_devices.specs.Devices.{OnlyAt}
-use Rattle.runner.specs.declared.board.Board.{Board}
-use Rattle.runner.specs.Boards.{IsBoard}
+use Rattle.run_board.specs.declared.board.Board.{Board}
+use Rattle.run_board.specs.Boards.{IsBoard}
 use Rattle.runner.specs.Halting.{WorldGoes}
-use Rattle.runner.specs.Progress.{now_at}
+use Rattle.run_board.specs.Progress.{now_at}
 use Rattle.runner.specs.Running.{AreOurs, InStep}
-use Rattle.runner.specs.Tables.{flag_in}
-use Rattle.runner.proofs.BoardFacts.{running-deps, sound-tells}
+use Rattle.run_board.specs.Tables.{flag_in}
+use Rattle.run_board.proofs.BoardFacts.{running-deps, sound-tells}
 use Rattle.runner.proofs.FileFacts.{elsewhere-only, elsewhere-over, elsewhere-then, undone-only, undone-over, undone-then}
 use Rattle.runner.proofs.WorldFacts.{ended-runs, ours-over, ours-same}
 

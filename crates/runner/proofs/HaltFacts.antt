@@ -21,9 +21,9 @@ use Rattle.run_plan.specs.Halts.{HaltLaw, HaltsWith, MayBePut}
 use Rattle.run_plan.specs.Openings.{Opening, rules_of}
 use Rattle.run_plan.specs.Stories.{Now}
 use Rattle.run_plan.specs.StoryLaws.{Stands, EndsNow}
-use Rattle.runner.specs.declared.board.Board.{Board}
+use Rattle.run_board.specs.declared.board.Board.{Board}
 use Rattle.runner.specs.Halting.{HaltsFrom, HaltsNow}
-use Rattle.runner.specs.Progress.{now_at}
+use Rattle.run_board.specs.Progress.{now_at}
 use Rattle.runner.specs.Running.{AreOurs, InStep}
 use Rattle.runner.proofs.FileFacts.{undone-over}
 use Rattle.runner.proofs.WorldFacts.{running-is, there-is}

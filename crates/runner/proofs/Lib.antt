@@ -1,7 +1,3 @@
-mod BoardFacts
-mod TurnFacts
-mod StoryFacts
-mod PageFacts
 mod CacheFacts
 mod CostFacts
 mod WorldFacts

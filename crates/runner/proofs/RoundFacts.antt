@@ -19,15 +19,15 @@ use Rattle.run_plan.specs.Plans.{IsValidPlan}
 use Rattle.run_plan.specs.Reports.{report_in}
 use Rattle.run_plan.specs.Stories.{Now, is_settled}
 use Rattle.run_plan.specs.StoryLaws.{Stands, StoryLaw, blocks_upto}
-use Rattle.runner.specs.declared.board.Board.{Board}
+use Rattle.run_board.specs.declared.board.Board.{Board}
 use Rattle.runner.specs.Answers.{Grows, opening_of}
-use Rattle.runner.specs.Boards.{IsBoard, IsRound, IsTurn, IsUpToDate, KeepsSettled, ShowsSettled}
+use Rattle.run_board.specs.Boards.{IsBoard, IsRound, IsTurn, IsUpToDate, KeepsSettled, ShowsSettled}
 use Rattle.runner.specs.Halting.{HaltsNow}
-use Rattle.runner.specs.Progress.{PageIs, now_of, with_board}
+use Rattle.run_board.specs.Progress.{PageIs, now_of, with_board}
 use Rattle.runner.specs.Running.{AreOurs}
-use Rattle.runner.specs.Tables.{log_in}
+use Rattle.run_board.specs.Tables.{log_in}
 use Rattle.runner.proofs.FileFacts.{undone-same}
-use Rattle.runner.proofs.StoryFacts.{become}
+use Rattle.run_board.proofs.StoryFacts.{become}
 use Rattle.runner.proofs.WorldFacts.{there-is}
 
 -- ---- steps

@@ -11,13 +11,13 @@ use Rattle.spawn_dev.specs.declared.effect.Effect.{Effect}
 use Rattle.spawn_dev.specs.Effects.{Seen}
 use Rattle.spawn_dev.specs.Spawn.{Runs}
 use Rattle.run_plan.specs.declared.plan.Plan.{Plan}
-use Rattle.run_plan.specs.Answers.{Cause, IsSafe}
-use Rattle.run_plan.specs.Answers.Cause.{Device, Output, Memory}
+use Rattle.run_plan.specs.Answers.{IsSafe}
 use Rattle.run_plan.specs.Openings.{Opening}
 use Rattle.task_devices.specs.Keeping.{IsFurther}
 use Rattle.task_devices.specs.Stops.{Faults, faults_of}
 use Rattle.task_devices.specs.declared.error.RunErr.{RunErr}
 use Rattle.task_devices.specs.declared.error.RunErr.TheVariants.{TreeFault, StoreFault, StartFault, SinkFault, OutOfMemory}
+pub use Rattle.run_board.specs.Causes.{cause_of}
 
 -- what commands do, the files, the pairs and the steps as a run begins
 abbrev pub opening_of : {B R D : Type 0} → (B → Seen → Effect) → Runs B → TreeState R
@@ -32,14 +32,6 @@ opening_of effect world tree cache = record {
 -- the counts of faults of the devices, of which the last one is the output's
 abbrev pub faults_in : {R D B : Type 0} → TreeState R → CacheState D → Runs B → ℕ → Faults
 faults_in tree cache world sink = faults_of tree.faults cache.faults world.faults sink
-
--- what stopped the run
-abbrev pub cause_of : RunErr → Cause
-cause_of TreeFault = Device
-cause_of StoreFault = Device
-cause_of StartFault = Device
-cause_of SinkFault = Output
-cause_of OutOfMemory = Memory
 
 -- a command could not be started or waited for
 abbrev pub is_start_fault : RunErr → Bool

@@ -18,7 +18,7 @@ use Rattle.run_plan.specs.Openings.{Opening}
 use Rattle.run_plan.specs.Stories.{Now, notes_in}
 use Rattle.run_plan.specs.StoryLaws.{Stands}
 use Rattle.runner.specs.Answers.{Grows, LeavesFurther, ends_at}
-use Rattle.runner.specs.Progress.{PageIs}
+use Rattle.run_board.specs.Progress.{PageIs}
 use Rattle.runner.specs.Running.{AreOurs}
 
 -- ---- whatever it answers

@@ -3,20 +3,16 @@
 //! cache, and the page is printed as it comes.
 //!
 //! `specs/Answers` has what `run` says beside what a plan's run is to leave; the other files of
-//! `specs/` say how its tables go with what runs, how far it is, and what it leaves where it
+//! `specs/` say how the tables of `run_board` go with what runs, and what a run leaves where it
 //! stops.
 #![tactic(auto)]
 
-mod board;
 mod draining;
 mod ending;
 mod looking;
-mod moves;
 mod rounds;
 mod running;
-mod showing;
 mod starting;
-mod tables;
 mod turns;
 
 pub use running::run;

@@ -16,15 +16,15 @@ ghost use Rattle.run_plan.specs.Plans.{IsValidPlan, bypasses};
 ghost use Rattle.task_devices.specs.Devices.{IsFree, OnlyAt};
 ghost use Rattle.task_devices.specs.Stops.{StopsBy};
 ghost use Rattle.runner.specs.Answers.{faults_in};
-ghost use Rattle.runner.specs.Boards.{IsBoard, IsMove};
+ghost use Rattle.run_board.specs.Boards.{IsBoard, IsMove};
 ghost use Rattle.runner.specs.Costs.{Spends, SpendsAtMost};
 ghost use Rattle.runner.specs.Halting.{HaltsFrom};
-ghost use Rattle.runner.specs.Progress.{StaysOn, now_of};
+ghost use Rattle.run_board.specs.Progress.{StaysOn, now_of};
 ghost use Rattle.runner.specs.Running.{InStep};
 
-use crate::board::Board;
 use cache_api::{Cache, Hit, Key};
 use rel_path::{Bytes, Text};
+use run_board::Board;
 use run_core::Next;
 use run_plan::{Plan, digits, halt_law, story_law};
 use spawn_dev::Spawner;

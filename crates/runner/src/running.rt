@@ -11,11 +11,10 @@ ghost use Rattle.task_devices.specs.Stops.{StopsBy, EndsBy};
 ghost use Rattle.runner.specs.Answers.{AllEnd, Grows, LeavesFurther, LeavesSafe, cause_of, is_start_fault, opening_of, faults_in};
 ghost use Rattle.runner.specs.Halting.{CacheGoes, StopsNow, WorldGoes};
 
-use crate::board::Board;
 use crate::draining::drain;
 use crate::rounds::rounds;
-use crate::showing::conclude;
 use cache_api::Cache;
+use run_board::{Board, conclude};
 use run_plan::{Plan, halt_law, story_law};
 use spawn_dev::Spawner;
 use std::alloc::Global;

@@ -8,12 +8,12 @@ ghost use Rattle.run_plan.specs.Openings.{Opening, rules_of};
 ghost use Rattle.run_plan.specs.Plans.{IsValidPlan};
 ghost use Rattle.run_plan.specs.StoryLaws.{Stands};
 ghost use Rattle.task_devices.specs.Stops.{faults_of, StopsBy};
-ghost use Rattle.runner.specs.Boards.{IsBoard, IsMove};
+ghost use Rattle.run_board.specs.Boards.{IsBoard, IsMove};
 ghost use Rattle.runner.specs.Halting.{HaltsFrom, WorldGoes};
-ghost use Rattle.runner.specs.Progress.{StaysOn, now_at};
+ghost use Rattle.run_board.specs.Progress.{StaysOn, now_at};
 ghost use Rattle.runner.specs.Running.{InStep};
 
-use crate::board::Board;
+use run_board::Board;
 use run_core::{Next, State};
 use run_laws::closure_is_valid;
 use run_plan::{Plan, halt_law, story_law};

@@ -9,7 +9,7 @@ use Rattle.run_plan.specs.Openings.{rules_of}
 use Rattle.run_plan.specs.StoryLaws.{EndIs, after_this}
 use Rattle.runner.specs.Ends.{IsKeptOf, with_log}
 use Rattle.runner.specs.Halting.{HaltsFrom}
-use Rattle.runner.specs.Progress.{now_of}
+use Rattle.run_board.specs.Progress.{now_of}
 use Rattle.runner.proofs.CacheFacts.{cache-none, grows-same, safe-none}
 use Rattle.runner.proofs.EndFacts.{as-put, no-more, safe-end, safe-ended}
 use Rattle.runner.proofs.FileFacts.{elsewhere-over, undone-over}
@@ -18,8 +18,8 @@ use Rattle.runner.proofs.GoesFacts.{safe-steps}
 use Rattle.runner.proofs.HaltFacts.{halts-early, halts-ended, lived}
 use Rattle.runner.proofs.HeldFacts.{declared-free, log-free}
 use Rattle.runner.proofs.StartFacts.{gone-at, rest-will}
-use Rattle.runner.proofs.StoryFacts.{become}
-use Rattle.runner.proofs.TurnFacts.{board-next}
+use Rattle.run_board.proofs.StoryFacts.{become}
+use Rattle.run_board.proofs.TurnFacts.{board-next}
 use Rattle.runner.proofs.WorldFacts.{step-ended}
 mod Stops
 use Rattle.runner.proofs.ending.finish.Goals as goal

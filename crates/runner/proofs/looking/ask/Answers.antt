@@ -19,13 +19,13 @@ use Rattle.run_laws.specs.Worlds.{logged}
 use Rattle.run_plan.specs.declared.report.Report.{Report}
 use Rattle.run_plan.specs.Pages.{digits_of}
 use Rattle.runner.specs.Costs.{still_costs}
-use Rattle.runner.specs.Progress.{now_of}
-use Rattle.runner.proofs.TurnFacts.{board-next, board-waits}
+use Rattle.run_board.specs.Progress.{now_of}
+use Rattle.run_board.proofs.TurnFacts.{board-next, board-waits}
 use Rattle.runner.proofs.CostFacts.{costs-same, look-less, waiting-costs}
 use Rattle.runner.proofs.FileFacts.{undone-only, undone-same}
 use Rattle.runner.proofs.HaltFacts.{halts-here}
 use Rattle.runner.proofs.HeldFacts.{free-of, log-free}
-use Rattle.runner.proofs.StoryFacts.{become}
+use Rattle.run_board.proofs.StoryFacts.{become}
 use Rattle.runner.proofs.WorldFacts.{step-same, step-looked}
 mod Costs
 use Rattle.runner.proofs.looking.ask.Goals as goal

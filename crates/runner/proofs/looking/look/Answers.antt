@@ -5,10 +5,10 @@ use Rattle.run_core.specs.declared.states.State.TheVariants.{Passed, Missed}
 use Rattle.run_core.specs.Core.{rules, states}
 use Rattle.run_core.specs.Machine.{put}
 use Rattle.runner.specs.Costs.{still_costs}
-use Rattle.runner.specs.Progress.{now_of}
-use Rattle.runner.proofs.TurnFacts.{by-plan, look-waits}
+use Rattle.run_board.specs.Progress.{now_of}
+use Rattle.run_board.proofs.TurnFacts.{by-plan, look-waits}
 use Rattle.runner.proofs.CostFacts.{puts-less}
-use Rattle.runner.proofs.StoryFacts.{become}
+use Rattle.run_board.proofs.StoryFacts.{become}
 use Rattle.runner.proofs.WorldFacts.{step-looked}
 use Rattle.runner.proofs.looking.look.Goals as goal
 

@@ -3,11 +3,11 @@ use Rattle.std.proofs.lemmas.Result.{err_from_is_err_and}
 use Rattle.run_core.specs.Core.{states}
 use Rattle.run_plan.specs.Answers.{IsPrompt}
 use Rattle.runner.specs.Costs.{Spends}
-use Rattle.runner.specs.Progress.{now_of}
+use Rattle.run_board.specs.Progress.{now_of}
 use Rattle.runner.specs.Running.{InStep}
 use Rattle.runner.proofs.FileFacts.{undone-same}
 use Rattle.runner.proofs.HaltFacts.{halts-here}
-use Rattle.runner.proofs.PageFacts.{if-device, tears-here}
+use Rattle.run_board.proofs.PageFacts.{if-device, tears-here}
 use Rattle.runner.proofs.RoundFacts.{page-kept, round-is, turn-board, turn-keeps, turn-settled}
 use Rattle.runner.proofs.rounds.round.Goals as goal
 

@@ -6,10 +6,10 @@ use Rattle.run_plan.specs.Openings.{Opening, rules_of}
 use Rattle.run_plan.specs.StoryLaws.{Stands}
 use Rattle.task_devices.specs.Stops.{faults_of}
 use Rattle.runner.specs.Answers.{LeavesSafe}
-use Rattle.runner.specs.Boards.{IsOver, IsUpToDate}
+use Rattle.run_board.specs.Boards.{IsOver, IsUpToDate}
 use Rattle.runner.specs.Costs.{Spends}
 use Rattle.runner.specs.Halting.{CacheGoes, WorldGoes}
-use Rattle.runner.specs.Progress.{PageGoesOn, StaysOn, now_of}
+use Rattle.run_board.specs.Progress.{PageGoesOn, StaysOn, now_of}
 use Rattle.runner.specs.Running.{InStep}
 use Rattle.runner.proofs.rounds.rounds.Given as goal
 

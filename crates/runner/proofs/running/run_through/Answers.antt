@@ -11,14 +11,14 @@ use Rattle.run_plan.specs.Stories.{notes_in}
 use Rattle.run_plan.specs.StoryLaws.{blocks_upto}
 use Rattle.run_plan.proofs.Closing.{script-below}
 use Rattle.runner.specs.Answers.{opening_of}
-use Rattle.runner.specs.Progress.{now_of, with_board}
+use Rattle.run_board.specs.Progress.{now_of, with_board}
 use Rattle.runner.specs.Running.{is_begun}
 use Rattle.runner.proofs.CacheFacts.{cache-none, safe-none}
 use Rattle.runner.proofs.CostFacts.{all-wait}
 use Rattle.runner.proofs.FileFacts.{undone-same}
 use Rattle.runner.proofs.GoesFacts.{world-none}
 use Rattle.runner.proofs.HaltFacts.{halts-here}
-use Rattle.runner.proofs.PageFacts.{torn-none}
+use Rattle.run_board.proofs.PageFacts.{torn-none}
 use Rattle.runner.proofs.RoundFacts.{current-first, halts-zero, ours-idle, page-first, stands-first, stands-zero, zero}
 use Rattle.runner.proofs.WorldFacts.{running-is}
 mod Ran

@@ -10,16 +10,16 @@ use Rattle.run_core.specs.Core.{rules, states}
 use Rattle.run_core.specs.Machine.{put, runs, is_done}
 use Rattle.run_laws.specs.Ancestors.{part_at}
 use Rattle.run_plan.specs.Commands.{command_of}
-use Rattle.runner.specs.Progress.{now_at}
+use Rattle.run_board.specs.Progress.{now_at}
 use Rattle.runner.specs.Running.{is_begun}
-use Rattle.runner.proofs.TurnFacts.{board-missed, board-next}
+use Rattle.run_board.proofs.TurnFacts.{board-missed, board-next}
 use Rattle.runner.proofs.CacheFacts.{grows-same}
 use Rattle.runner.proofs.FileFacts.{elsewhere-only, elsewhere-same, elsewhere-then, undone-only, undone-same, undone-then}
 use Rattle.runner.proofs.GoesFacts.{world-same, safe-steps}
 use Rattle.runner.proofs.HaltFacts.{halts-early, halts-here}
 use Rattle.runner.proofs.HeldFacts.{free-of, is-fresh, is-clear, reads-free, owns-nothing}
 use Rattle.runner.proofs.StartFacts.{others-will, own-will, own-steps}
-use Rattle.runner.proofs.StoryFacts.{become}
+use Rattle.run_board.proofs.StoryFacts.{become}
 use Rattle.runner.proofs.WorldFacts.{ours-refused, ours-same, step-same, step-started}
 mod Needs
 use Rattle.runner.proofs.starting.begin.Goals as goal

@@ -4,7 +4,7 @@ use Rattle.run_core.specs.declared.states.Next.TheVariants as turn
 use Rattle.run_core.specs.declared.states.State.TheVariants.{Running}
 use Rattle.run_core.specs.Core.{rules, states}
 use Rattle.runner.specs.Costs.{still_costs}
-use Rattle.runner.proofs.TurnFacts.{by-plan, look-below, start-missed}
+use Rattle.run_board.proofs.TurnFacts.{by-plan, look-below, start-missed}
 use Rattle.runner.proofs.CacheFacts.{cache-none, cache-reads, safe-none, safe-same}
 use Rattle.runner.proofs.CostFacts.{puts-less}
 use Rattle.runner.proofs.GoesFacts.{safe-less, world-none, world-same}

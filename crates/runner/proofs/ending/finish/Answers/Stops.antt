@@ -4,7 +4,7 @@ use Rattle.std.proofs.lemmas.Result.{err_from_is_err_and}
 use Rattle.run_core.specs.Core.{states}
 use Rattle.run_core.specs.Machine.{is_done}
 use Rattle.runner.specs.Halting.{HaltsFrom}
-use Rattle.runner.specs.Progress.{now_of}
+use Rattle.run_board.specs.Progress.{now_of}
 use Rattle.runner.proofs.CacheFacts.{safe-none}
 use Rattle.runner.proofs.EndFacts.{as-put, safe-end, safe-ended}
 use Rattle.runner.proofs.FileFacts.{undone-over}

@@ -4,7 +4,7 @@ use Rattle.run_core.specs.declared.states.State.TheVariants.{Passed, Missed}
 use Rattle.run_core.specs.Core.{states}
 use Rattle.run_laws.specs.Keys.{key_of}
 use Rattle.runner.specs.Costs.{still_costs}
-use Rattle.runner.proofs.TurnFacts.{board-waits}
+use Rattle.run_board.proofs.TurnFacts.{board-waits}
 use Rattle.runner.proofs.CostFacts.{costs-same, look-less, waiting-costs}
 use Rattle.runner.proofs.looking.ask.Goals as goal
 

@@ -8,7 +8,7 @@ use Rattle.run_plan.specs.Reports.{report_in, worst_by, summary_by}
 use Rattle.run_plan.specs.Stories.{notes_in}
 use Rattle.run_plan.specs.StoryLaws.{blocks_upto}
 use Rattle.runner.specs.Answers.{opening_of}
-use Rattle.runner.specs.Progress.{now_of, with_board}
+use Rattle.run_board.specs.Progress.{now_of, with_board}
 use Rattle.runner.proofs.RoundFacts.{page-first, stands-first}
 use Rattle.runner.proofs.running.run_through.Goals as goal
 

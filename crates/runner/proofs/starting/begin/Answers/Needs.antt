@@ -3,7 +3,7 @@ use Rattle.std.proofs.Common.{◌∙◌, ap}
 use Rattle.run_core.specs.Core.{states}
 use Rattle.run_core.specs.Machine.{runs}
 use Rattle.runner.specs.Running.{is_begun}
-use Rattle.runner.proofs.TurnFacts.{board-missed}
+use Rattle.run_board.proofs.TurnFacts.{board-missed}
 use Rattle.runner.proofs.HeldFacts.{free-of, is-fresh, is-clear, reads-free, owns-nothing}
 use Rattle.runner.proofs.WorldFacts.{step-same}
 use Rattle.runner.proofs.starting.begin.Goals as goal

@@ -1,0 +1,4 @@
+pub mod BoardFacts
+pub mod TurnFacts
+pub mod StoryFacts
+pub mod PageFacts
