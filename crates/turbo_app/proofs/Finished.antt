@@ -4,6 +4,17 @@ use Rattle.turbo_app.specs.declared.answer.Answer.{Answer}
 use Rattle.turbo_app.specs.declared.answer.Answer.TheVariants.{Done, Refused, TreeFault, StoreFault, StartFault, SinkFault, OutOfMemory}
 use Rattle.turbo_app.specs.Answers.{IfDone}
 
+-- from what holds follows more
+pub done_as : (P Q : ℕ → Type 0) (r : Answer) → ((status : ℕ) → P status → Q status)
+    → IfDone r P → IfDone r Q
+done_as P Q (Done status) more h = more status h
+done_as P Q (Refused reason) more h = tt
+done_as P Q TreeFault more h = tt
+done_as P Q StoreFault more h = tt
+done_as P Q StartFault more h = tt
+done_as P Q SinkFault more h = tt
+done_as P Q OutOfMemory more h = tt
+
 -- of a dry run
 pub dry_done : {W Heard Page : Type 0} (R : ℕ → Type 0) (r : Answer) → IfDone r (λ _. W) → IfDone r (λ status. status ≡ 0) → (Heard → IfDone r (λ _. Page))
     → ((status : ℕ) → W → status ≡ 0 → (Heard → Page) → R status) → IfDone r R

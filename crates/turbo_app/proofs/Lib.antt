@@ -3,3 +3,7 @@ mod Printed
 mod Finished
 mod Only
 mod NotBuilt
+mod Left
+mod Chain
+mod Ready
+mod Truth

@@ -5,7 +5,8 @@ use Rattle.tree_dev.specs.Tree.{TreeState}
 use Rattle.spawn_dev.specs.Spawn.{Runs}
 use Rattle.refusals.specs.declared.refusal.Refusal.{Refusal}
 use Rattle.turbo_app.specs.declared.answer.Answer.{Answer}
-use Rattle.turbo_app.specs.declared.answer.Answer.TheVariants.{Done, Refused, TreeFault, StoreFault, StartFault, SinkFault, OutOfMemory}
+use Rattle.turbo_app.specs.declared.answer.Answer.TheVariants.{Done, Refused, TreeFault, StoreFault}
+use Rattle.turbo_app.specs.declared.answer.Answer.TheVariants.{StartFault, SinkFault, OutOfMemory}
 
 -- the status of a run that ended, and 1 otherwise
 abbrev pub exit_status : Answer → ℕ
@@ -55,9 +56,9 @@ counts_of tree store start sink = record { tree = tree; store = store; start = s
 abbrev pub counts_at : {B R : Type 0} → TreeState R → Runs B → ℕ → ℕ → FaultCounts
 counts_at tree runs store sink = counts_of tree.faults store runs.faults sink
 
--- A fault is answered only where the device's own count rose, and none that goes before it did. What came to its end, or
--- was refused, leaves all counts; after want of memory none rose but that of starting commands, where running ones were
--- waited for. No count falls.
+-- A fault is answered only where the device's own count rose, and none that goes before it did.
+-- What came to its end, or was refused, leaves all counts; after want of memory none rose but that
+-- of starting commands, where running ones were waited for. No count falls.
 abbrev pub HasCauseIn : FaultCounts → FaultCounts → Answer → Type 0
 HasCauseIn old new (Done status) = new ≡ old
 HasCauseIn old new (Refused refusal) = new ≡ old

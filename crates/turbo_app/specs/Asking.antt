@@ -1,5 +1,7 @@
--- What words ask for, over the files of a repository and the bytes of a store, and why they are refused.
-use Rattle.std.specs.Prelude.{◌≡◌, ◌⊎◌, ◌&&◌, ℕ, Bool, true, false, not, List, Option, Some, None, MatchOption, Result, Ok, Err, if◌then◌else◌}
+-- What words ask for, over the files of a repository and the bytes of a store, and why they are
+-- refused.
+use Rattle.std.specs.Prelude.{◌≡◌, ◌⊎◌, ◌&&◌, ℕ, Bool, true, false, not, List, Option, Some, None}
+use Rattle.std.specs.Prelude.{MatchOption, Result, Ok, Err, if◌then◌else◌}
 use Rattle.rel_path.specs.Files.{FileMap}
 use Rattle.record_log.specs.Frames.{Fault, reading}
 use Rattle.record_log.specs.Frames.Fault.{NotAStore, Damaged}
@@ -14,7 +16,8 @@ use Rattle.refusals.specs.declared.refusal.Refusal.TheVariants as refusal
 use Rattle.run_plan.specs.declared.plan.Plan.{Plan}
 use Rattle.plan_laws.specs.Laws.{AsksFor}
 use Rattle.turbo_app.specs.declared.answer.Answer.{Answer}
-use Rattle.turbo_app.specs.declared.unbuilt.TheConstants.{PRUNE_FORM, CACHE_FORM, SHARED_FORM, SAMPLE_FORM, COMPACT_FORM}
+use Rattle.turbo_app.specs.declared.unbuilt.TheConstants.{PRUNE_FORM, CACHE_FORM}
+use Rattle.turbo_app.specs.declared.unbuilt.TheConstants.{SHARED_FORM, SAMPLE_FORM, COMPACT_FORM}
 use Rattle.turbo_app.specs.Answers.{IsNothingBut}
 
 abbrev pub store_refusal : Fault → Refusal
@@ -77,7 +80,8 @@ IsRefusedOrder (Ok order) env files stored reason =
 abbrev pub IsRefused : List (List ℕ) → List (List ℕ × List ℕ) → FileMap → List ℕ → Refusal → Type 0
 IsRefused words env files stored reason = IsRefusedOrder (order_of words) env files stored reason
 
--- where there is a reason to refuse the words, nothing is answered but that refusal, a fault of a device or want of memory
+-- where there is a reason to refuse the words, nothing is answered but that refusal, a fault of a
+-- device or want of memory
 abbrev pub HasNoOtherBy :
     Result Order WordsErr → List (List ℕ × List ℕ) → FileMap → List ℕ → Answer → Type 0
 HasNoOtherBy asked env files stored answer =

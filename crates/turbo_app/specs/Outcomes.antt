@@ -1,5 +1,6 @@
 -- What a call that came to its end leaves.
-use Rattle.std.specs.Prelude.{◌≡◌, ◌⊎◌, ℕ, Bool, true, false, List, ◌++◌, Some, Result, Ok, Err, codes}
+use Rattle.std.specs.Prelude.{◌≡◌, ◌⊎◌, ℕ, Bool, true, false, List, ◌++◌, Some, Result, Ok, Err}
+use Rattle.std.specs.Prelude.{codes}
 use Rattle.rel_path.specs.Files.{FileMap}
 use Rattle.listing.specs.KeyText.{Fits}
 use Rattle.cache_api.specs.Pairs.{Pair}
@@ -21,8 +22,8 @@ use Rattle.run_plan.specs.DryPages.{dry_page}
 use Rattle.run_plan.specs.Openings.{Opening}
 use Rattle.plan_laws.specs.Laws.{AsksFor}
 
--- What the devices hold at a moment: the files, the starts and ends of commands so far, the bytes of the store, and what
--- was printed.
+-- What the devices hold at a moment: the files, the starts and ends of commands so far, the bytes
+-- of the store, and what was printed.
 pub record Moment : Type 0 where
   pub files : FileMap
   pub steps : List Step
@@ -46,10 +47,11 @@ opening_at book old pairs = record {
   steps = old.steps;
 }
 
--- A run of the plan over the pairs that the store had. Where commands do what the book says of what they see, and write no
--- more than a store can keep, where no text is of 2^32 bytes or more, and where the pairs tell the truth, it is as `Ran`
--- says: each reported task has the log, status and files of the run without a cache, and exactly the commands without an
--- equal stored listing were started. The room is what the store may still take.
+-- A run of the plan over the pairs that the store had. Where commands do what the book says of what
+-- they see, and write no more than a store can keep, where no text is of 2^32 bytes or more, and
+-- where the pairs tell the truth, it is as `Ran` says: each reported task has the log, status and
+-- files of the run without a cache, and exactly the commands without an equal stored listing were
+-- started. The room is what the store may still take.
 pub record RanPlan (book : Book) (plan : Plan) (Heard : Type 0) (old new : Moment) (status : ℕ)
     : Type 0 where
   pub before : List Pair
@@ -62,8 +64,8 @@ pub record RanPlan (book : Book) (plan : Plan) (Heard : Type 0) (old new : Momen
       → Ran plan (opening_at book old before) new.files after room new.steps Heard old.printed
       new.printed status
 
--- A dry run of the plan: nothing was started, files and pairs are as before, and what a run would do with each task was
--- printed.
+-- A dry run of the plan: nothing was started, files and pairs are as before, and what a run would
+-- do with each task was printed.
 pub record RanPlanDry (plan : Plan) (Heard : Type 0) (old new : Moment) (status : ℕ)
     : Type 0 where
   pub pairs : List Pair

@@ -15,7 +15,8 @@ use Rattle.artifact_store.specs.declared.error.OpenErr.TheVariants as opening
 use Rattle.task_devices.specs.declared.error.RunErr.{RunErr}
 use Rattle.task_devices.specs.declared.error.RunErr.TheVariants as run
 use Rattle.turbo_app.specs.declared.answer.Answer.{Answer}
-use Rattle.turbo_app.specs.declared.answer.Answer.TheVariants.{TreeFault, StoreFault, StartFault, SinkFault}
+use Rattle.turbo_app.specs.declared.answer.Answer.TheVariants.{TreeFault, StoreFault, StartFault}
+use Rattle.turbo_app.specs.declared.answer.Answer.TheVariants.{SinkFault}
 use Rattle.turbo_app.specs.declared.answer.Answer.TheVariants as answer
 use Rattle.plan_laws.specs.Laws.{AsksFor}
 use Rattle.turbo_app.specs.Asking.{store_refusal}

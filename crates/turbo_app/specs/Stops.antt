@@ -1,5 +1,6 @@
 -- What a call leaves that a fault of a device or want of memory ended.
-use Rattle.std.specs.Prelude.{◌≡◌, ◌⊎◌, ℕ, Bool, true, false, List, [], ◌++◌, take, Some, Result, Ok, Err, ⊤}
+use Rattle.std.specs.Prelude.{◌≡◌, ◌⊎◌, ℕ, Bool, true, false, List, [], ◌++◌, take, Some, Result}
+use Rattle.std.specs.Prelude.{Ok, Err, ⊤}
 use Rattle.rel_path.specs.Files.{FileMap}
 use Rattle.listing.specs.KeyText.{Fits}
 use Rattle.cache_api.specs.Pairs.{Pair}
@@ -23,14 +24,15 @@ use Rattle.run_plan.specs.Answers.Cause.{Device, Output, Memory}
 use Rattle.run_plan.specs.DryPages.{IsTornDry}
 use Rattle.run_plan.specs.Openings.{Opening}
 use Rattle.turbo_app.specs.declared.answer.Answer.{Answer}
-use Rattle.turbo_app.specs.declared.answer.Answer.TheVariants.{Done, Refused, TreeFault, StoreFault, StartFault, SinkFault, OutOfMemory}
+use Rattle.turbo_app.specs.declared.answer.Answer.TheVariants.{Done, Refused, TreeFault, StoreFault}
+use Rattle.turbo_app.specs.declared.answer.Answer.TheVariants.{StartFault, SinkFault, OutOfMemory}
 use Rattle.plan_laws.specs.Laws.{AsksFor}
 use Rattle.turbo_app.specs.Asking.{IsRefusedOrder}
 use Rattle.turbo_app.specs.Outcomes.{Moment, opening_at, usage}
 use Rattle.turbo_app.specs.Steps.{IsNoStore}
 
--- What holds where a device's fault or want of memory is answered, of what stopped the call and of the line that names
--- the device: there is none for the output and for memory.
+-- What holds where a device's fault or want of memory is answered, of what stopped the call and of
+-- the line that names the device: there is none for the output and for memory.
 abbrev pub IfFault : Answer → (Cause → List ℕ → Type 0) → Type 0
 IfFault (Done status) P = ⊤
 IfFault (Refused refusal) P = ⊤
@@ -44,7 +46,8 @@ IfFault OutOfMemory P = P Memory []
 abbrev pub PrintsSome : List ℕ → List ℕ → List ℕ → Type 0
 PrintsSome text before after = (count : ℕ) × (after ≡ before ++ take count text)
 
--- what was printed of a text: some first part where the output failed, and nothing where memory was wanting
+-- what was printed of a text: some first part where the output failed, and nothing where memory was
+-- wanting
 abbrev pub CutsText : Cause → List ℕ → List ℕ → List ℕ → Type 0
 CutsText Device text before after = ⊥
 CutsText Output text before after = PrintsSome text before after
@@ -57,7 +60,8 @@ CutsRefusal Reason Output before after =
     (reason : Refusal) × Reason reason × PrintsSome (line_of (refusal_text reason)) before after
 CutsRefusal Reason Memory before after = after ≡ before
 
--- nothing was printed but the line of a fault, or of a refusal; and nothing at all after want of memory
+-- nothing was printed but the line of a fault, or of a refusal; and nothing at all after want of
+-- memory
 abbrev pub StopsEarly : (Refusal → Type 0) → List ℕ → List ℕ → Cause → List ℕ → Type 0
 StopsEarly Reason before after Device line = PrintsSome line before after
 StopsEarly Reason before after Output line = CutsRefusal Reason Output before after
@@ -78,8 +82,9 @@ StopsDry plan pairs before after cause line =
     (printed : List ℕ) × IsTornDry plan pairs (is_output cause) before printed
     × PrintsSome line printed after
 
--- What a run of the plan, dry or not, leaves that stopped. Where commands do what the book says, no text is too long and
--- the pairs tell the truth, a run that is not dry leaves what `Stopped` of a plan says, with some pairs and some room.
+-- What a run of the plan, dry or not, leaves that stopped. Where commands do what the book says, no
+-- text is too long and the pairs tell the truth, a run that is not dry leaves what `Stopped` of a
+-- plan says, with some pairs and some room.
 abbrev pub StopsRun : Bool → Book → Plan → List Pair → Type 0 → Moment → Moment → Cause → List ℕ
     → Type 0
 StopsRun true book plan pairs Heard old new cause line =

@@ -7,7 +7,8 @@ use refusals::Refusal;
 /// How a call of `turbo` ended.
 #[derive(Debug, Drop)]
 pub enum Answer {
-    /// What was asked for was done. The status is 0 where no task failed, else the greatest status of a failed task.
+    /// What was asked for was done. The status is 0 where no task failed, else the greatest status
+    /// of a failed task.
     Done { status: u8 },
     /// Nothing was started and nothing changed. The reason is all that was printed.
     Refused(Refusal),

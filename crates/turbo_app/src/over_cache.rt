@@ -1,13 +1,14 @@
 // A run of a plan over a cache.
-ghost use Rattle.std.specs.Prelude.{◌≡◌, ◌++◌, ◌≤◌, ℕ, IsTrue};
+ghost use Rattle.std.specs.Prelude.{◌≡◌, ◌++◌, ◌≤◌, ℕ, Some, IsTrue};
 ghost use Rattle.std.specs.Bool.{OnFalse, OnTrue};
+ghost use Rattle.cache_api.specs.Moments.{Leaves};
 ghost use Rattle.spawn_dev.specs.Spawn.{IsIdle};
 ghost use Rattle.run_laws.specs.Runs.{IsReady};
 ghost use Rattle.run_plan.specs.Answers.{Ran, SameElsewhere};
 ghost use Rattle.run_plan.specs.DryPages.{dry_page};
 ghost use Rattle.run_plan.specs.Openings.{setting_of, HoldsInputs};
 ghost use Rattle.run_plan.specs.Plans.{IsValidPlan};
-ghost use Rattle.runner.specs.Answers.{cause_of, opening_of};
+ghost use Rattle.runner.specs.Answers.{LeavesFurther, LeavesSafe, cause_of, opening_of};
 ghost use Rattle.turbo_app.specs.Answers.{IfDone, IfRefused, HasCauseIn, counts_at, counts_of};
 ghost use Rattle.turbo_app.specs.Steps.{answer_of};
 ghost use Rattle.turbo_app.specs.Stops.{IfFault, PrintsSome, StopsDry, StopsOver};
@@ -24,7 +25,8 @@ use std::alloc::Global;
 use task_devices::RunErr;
 use tree_dev::Sink;
 
-/// Answers what stopped a run, and tries to print it, where the output did not fail and memory was there.
+/// Answers what stopped a run, and tries to print it, where the output did not fail and memory was
+/// there.
 fn stopped<K: Sink>(alloc: Global, fault: RunErr, out: &mut K) -> Answer
     ensures answer { result ≡ answer_of fault }
     ensures told { K.tells → IfFault result (λ cause line. (cause ≡ cause_of fault)
@@ -89,6 +91,13 @@ fn run_live<W: Spawner, C: Cache, K: Sink>(
     ensures book { (W.runs world.new).book ≡ (W.runs world.old).book }
     ensures elsewhere { W.tells
         → SameElsewhere plan.now (W.state world.old).files (W.state world.new).files }
+    ensures images { C.tells
+        → LeavesFurther C.state C.moment C.left C.says cache.old cache.new }
+    ensures left { W.tells → C.tells → IsReady (setting_of plan.now
+        (opening_of W.effect (W.runs world.old) (W.state world.old) (C.state cache.old)))
+        → LeavesSafe C.state C.moment C.left C.says plan.now
+        (opening_of W.effect (W.runs world.old) (W.state world.old) (C.state cache.old))
+        (W.runs world.new).steps cache.old cache.new }
     ensures cause { HasCauseIn
         (counts_at (W.state world.old) (W.runs world.old) (C.state cache.old).faults
         (K.faults out.old))
@@ -121,6 +130,8 @@ fn run_dry<C: Cache, K: Sink>(alloc: Global, plan: &Plan, cache: &mut C, out: &m
 
     // Whatever it answers.
     ensures pairs { C.tells → (C.state cache.new).pairs ≡ (C.state cache.old).pairs }
+    ensures left { C.tells → Leaves C.moment C.left cache.old cache.new (λ image.
+        C.says (C.state cache.old).base image ≡ Some (C.state cache.old).pairs) }
     ensures cause { (tree start : ℕ) → HasCauseIn
         (counts_of tree (C.state cache.old).faults start (K.faults out.old))
         (counts_of tree (C.state cache.new).faults start (K.faults out.new)) result }
@@ -179,6 +190,15 @@ pub(crate) fn run_over<W: Spawner, C: Cache, K: Sink>(
     ensures dry_steps { OnTrue is_dry ((W.runs world.new).steps ≡ (W.runs world.old).steps) }
     ensures dry_pairs { C.tells
         → OnTrue is_dry ((C.state cache.new).pairs ≡ (C.state cache.old).pairs) }
+    ensures images { C.tells
+        → LeavesFurther C.state C.moment C.left C.says cache.old cache.new }
+    ensures left { W.tells → C.tells → OnFalse is_dry (IsReady (setting_of plan.now
+        (opening_of W.effect (W.runs world.old) (W.state world.old) (C.state cache.old)))
+        → LeavesSafe C.state C.moment C.left C.says plan.now
+        (opening_of W.effect (W.runs world.old) (W.state world.old) (C.state cache.old))
+        (W.runs world.new).steps cache.old cache.new) }
+    ensures dry_left { C.tells → OnTrue is_dry (Leaves C.moment C.left cache.old cache.new
+        (λ image. C.says (C.state cache.old).base image ≡ Some (C.state cache.old).pairs)) }
     ensures cause { HasCauseIn
         (counts_at (W.state world.old) (W.runs world.old) (C.state cache.old).faults
         (K.faults out.old))

@@ -1,15 +1,25 @@
 // A run of a plan over the device of a store.
 ghost use Rattle.std.specs.Prelude.{◌≡◌, ◌++◌, ◌<◌, ℕ, List, length, Some, IsTrue};
+ghost use Rattle.store_dev.specs.Device.{LeavesOnly, Only};
 ghost use Rattle.spawn_dev.specs.Spawn.{IsIdle};
 ghost use Rattle.rel_path.specs.Causes.{Counts};
 ghost use Rattle.refusals.specs.Refusals.{line_of, refusal_text};
 ghost use Rattle.artifact_store.specs.Answers.{is_fault, raised};
 ghost use Rattle.artifact_store.specs.Pairs.{stands_for};
-ghost use Rattle.artifact_store.specs.Store.{state_of};
+ghost use Rattle.artifact_store.specs.Store.{device_of, state_of};
 ghost use Rattle.run_plan.specs.Answers.{SameElsewhere};
 ghost use Rattle.run_plan.specs.Openings.{HoldsInputs};
 ghost use Rattle.run_plan.specs.Plans.{IsValidPlan};
+ghost use Rattle.runner.specs.Answers.{opening_of};
+ghost use Rattle.task_devices.specs.Keeping.{IsFurther};
 ghost use Rattle.turbo_app.specs.Answers.{IfDone, IfRefused, HasCauseIn, counts_at, counts_of};
+ghost use Rattle.turbo_app.specs.Images.{
+  AddsTo,
+  IsLeftByPlan,
+  IsLeftByRun,
+  IsTrustedPlan,
+  IsTrustedRun,
+};
 ghost use Rattle.turbo_app.specs.Outcomes.{RanAs, moment_of};
 ghost use Rattle.turbo_app.specs.Steps.{IsNoStore, IsStoreRefusal};
 ghost use Rattle.turbo_app.specs.Stops.{IfFault, StopsEarly, StopsRun, StopsPlan};
@@ -46,7 +56,10 @@ fn run_store<W: Spawner, S: StoreDevice, K: Sink>(
         → stands_for stored ≡ Some (state_of store).pairs
         → IfDone result.0 (RanAs is_dry (W.effect (W.runs world.old).book) plan.now K.tells
         (moment_of (W.state world.old) (W.runs world.old) stored (K.written out.old))
-        (moment_of (W.state world.new) (W.runs world.new) (S.content result.1) (K.written out.new))) }
+        (moment_of (W.state world.new) (W.runs world.new) (S.content result.1)
+        (K.written out.new))) }
+    ensures lasts { S.tells
+        → IfDone result.0 (λ _. Only (S.content result.1) (S.images result.1)) }
 
     // What was refused.
     ensures not_refused { IfRefused result.0 (λ _. ⊥) }
@@ -56,13 +69,21 @@ fn run_store<W: Spawner, S: StoreDevice, K: Sink>(
         → IfFault result.0 (StopsRun is_dry (W.effect (W.runs world.old).book) plan.now
         (state_of store).pairs K.tells
         (moment_of (W.state world.old) (W.runs world.old) stored (K.written out.old))
-        (moment_of (W.state world.new) (W.runs world.new) (S.content result.1) (K.written out.new))) }
+        (moment_of (W.state world.new) (W.runs world.new) (S.content result.1)
+        (K.written out.new))) }
 
     // Whatever it answers.
     ensures idle { IsIdle (W.runs world.new) }
     ensures book { (W.runs world.new).book ≡ (W.runs world.old).book }
     ensures elsewhere { W.tells
         → SameElsewhere plan.now (W.state world.old).files (W.state world.new).files }
+    ensures sound { S.tells → LeavesOnly S.moment S.images_since (device_of store) result.1
+        (λ c. IsFurther (state_of store).pairs (stands_for c)) }
+    ensures left { W.tells → S.tells
+        → IsTrustedRun is_dry (W.effect (W.runs world.old).book) plan.now (state_of store).pairs
+        → LeavesOnly S.moment S.images_since (device_of store) result.1 (λ c. IsLeftByRun is_dry
+        plan.now (opening_of W.effect (W.runs world.old) (W.state world.old) (state_of store))
+        (W.runs world.new).steps (stands_for c)) }
     ensures cause { HasCauseIn
         (counts_at (W.state world.old) (W.runs world.old) (state_of store).faults
         (K.faults out.old))
@@ -97,7 +118,8 @@ fn unopened<K: Sink>(alloc: Global, fault: OpenErr, out: &mut K) -> Answer
     }
 }
 
-/// Opens the store and runs the plan over it, or says what a run would do. The device is handed back whatever the answer is.
+/// Opens the store and runs the plan over it, or says what a run would do. The device is handed
+/// back whatever the answer is.
 pub(crate) fn run_plan<W: Spawner, S: StoreDevice, K: Sink>(
     alloc: Global,
     is_dry: bool,
@@ -114,7 +136,10 @@ pub(crate) fn run_plan<W: Spawner, S: StoreDevice, K: Sink>(
     ensures ran { W.tells → S.tells → IfDone result.0
         (RanAs is_dry (W.effect (W.runs world.old).book) plan.now K.tells
         (moment_of (W.state world.old) (W.runs world.old) (S.content store) (K.written out.old))
-        (moment_of (W.state world.new) (W.runs world.new) (S.content result.1) (K.written out.new))) }
+        (moment_of (W.state world.new) (W.runs world.new) (S.content result.1)
+        (K.written out.new))) }
+    ensures lasts { S.tells
+        → IfDone result.0 (λ _. Only (S.content result.1) (S.images result.1)) }
 
     // What was refused.
     ensures refused { S.tells → IfRefused result.0 (IsNoStore (S.content store)) }
@@ -129,13 +154,23 @@ pub(crate) fn run_plan<W: Spawner, S: StoreDevice, K: Sink>(
     ensures stopped { W.tells → S.tells → K.tells → IfFault result.0
         (StopsPlan is_dry (W.effect (W.runs world.old).book) plan.now K.tells
         (moment_of (W.state world.old) (W.runs world.old) (S.content store) (K.written out.old))
-        (moment_of (W.state world.new) (W.runs world.new) (S.content result.1) (K.written out.new))) }
+        (moment_of (W.state world.new) (W.runs world.new) (S.content result.1)
+        (K.written out.new))) }
 
     // Whatever it answers.
     ensures idle { IsIdle (W.runs world.new) }
     ensures book { (W.runs world.new).book ≡ (W.runs world.old).book }
     ensures elsewhere { W.tells
         → SameElsewhere plan.now (W.state world.old).files (W.state world.new).files }
+    ensures sound { S.tells
+        → LeavesOnly S.moment S.images_since store result.1 (AddsTo (S.images store)) }
+    ensures left { W.tells → S.tells
+        → IsTrustedPlan is_dry (W.effect (W.runs world.old).book) plan.now
+        (moment_of (W.state world.old) (W.runs world.old) (S.content store) (K.written out.old))
+        → LeavesOnly S.moment S.images_since store result.1
+        (IsLeftByPlan is_dry (W.effect (W.runs world.old).book) plan.now
+        (moment_of (W.state world.old) (W.runs world.old) (S.content store) (K.written out.old))
+        (W.runs world.new).steps (S.images store)) }
     ensures cause { HasCauseIn
         (counts_at (W.state world.old) (W.runs world.old) (S.store_faults store) (K.faults out.old))
         (counts_at (W.state world.new) (W.runs world.new) (S.store_faults result.1)

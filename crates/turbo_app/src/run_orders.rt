@@ -2,12 +2,20 @@
 ghost use Rattle.std.specs.Prelude.{◌≡◌, ◌++◌, ◌<◌, ◌≤◌, ℕ, length, Ok};
 ghost use Rattle.rel_path.specs.Causes.{Counts};
 ghost use Rattle.rel_path.specs.Limits.{width_limit};
+ghost use Rattle.store_dev.specs.Device.{LeavesOnly, Only};
 ghost use Rattle.spawn_dev.specs.Spawn.{IsIdle};
 ghost use Rattle.cli_words.specs.declared.order.Order.TheVariants.{Run};
 ghost use Rattle.refusals.specs.Refusals.{line_of, refusal_text};
 ghost use Rattle.refusals.specs.Stops.{is_failed};
 ghost use Rattle.turbo_app.specs.Answers.{IfDone, IfRefused, HasCauseIn, counts_at, counts_of};
 ghost use Rattle.turbo_app.specs.Asking.{IsRefusedOrder, IsRefusedRun, HasNoOtherBy};
+ghost use Rattle.turbo_app.specs.Images.{
+  AddsTo,
+  IsLeftBy,
+  IsLeftByOrder,
+  IsTrustedBy,
+  IsTrustedOrder,
+};
 ghost use Rattle.turbo_app.specs.Outcomes.{RanOrder, MayChangeBy, moment_of};
 ghost use Rattle.turbo_app.specs.Steps.{raised};
 ghost use Rattle.turbo_app.specs.Stops.{IfFault, StopsEarly, StoppedBy, StoppedRun};
@@ -65,7 +73,10 @@ fn run_built<W: Spawner, S: StoreDevice, K: Sink>(
     ensures ran { W.tells → S.tells → IfDone result.0
         (RanOrder (W.effect (W.runs world.old).book) order.now env.now K.tells
         (moment_of (W.state world.old) (W.runs world.old) (S.content store) (K.written out.old))
-        (moment_of (W.state world.new) (W.runs world.new) (S.content result.1) (K.written out.new))) }
+        (moment_of (W.state world.new) (W.runs world.new) (S.content result.1)
+        (K.written out.new))) }
+    ensures lasts { S.tells
+        → IfDone result.0 (λ _. Only (S.content result.1) (S.images result.1)) }
 
     // What was refused.
     ensures refused { W.tells → S.tells → IfRefused result.0
@@ -83,13 +94,23 @@ fn run_built<W: Spawner, S: StoreDevice, K: Sink>(
         (IsRefusedRun order.now env.now (W.state world.old).files (S.content store))
         order.now (W.effect (W.runs world.old).book) env.now K.tells
         (moment_of (W.state world.old) (W.runs world.old) (S.content store) (K.written out.old))
-        (moment_of (W.state world.new) (W.runs world.new) (S.content result.1) (K.written out.new))) }
+        (moment_of (W.state world.new) (W.runs world.new) (S.content result.1)
+        (K.written out.new))) }
 
     // Whatever it answers.
     ensures idle { IsIdle (W.runs world.new) }
     ensures book { (W.runs world.new).book ≡ (W.runs world.old).book }
     ensures elsewhere { W.tells → MayChangeBy (Ok (Run order.now)) env.now
         (W.state world.old).files (W.state world.new).files }
+    ensures sound { S.tells
+        → LeavesOnly S.moment S.images_since store result.1 (AddsTo (S.images store)) }
+    ensures left { W.tells → S.tells → IsTrustedOrder order.now
+        (W.effect (W.runs world.old).book) env.now
+        (moment_of (W.state world.old) (W.runs world.old) (S.content store) (K.written out.old))
+        → LeavesOnly S.moment S.images_since store result.1
+        (IsLeftByOrder order.now (W.effect (W.runs world.old).book) env.now
+        (moment_of (W.state world.old) (W.runs world.old) (S.content store) (K.written out.old))
+        (W.runs world.new).steps (S.images store)) }
     ensures cause { HasCauseIn
         (counts_at (W.state world.old) (W.runs world.old) (S.store_faults store) (K.faults out.old))
         (counts_at (W.state world.new) (W.runs world.new) (S.store_faults result.1)
@@ -101,7 +122,8 @@ fn run_built<W: Spawner, S: StoreDevice, K: Sink>(
     }
 }
 
-/// Does what `turbo` does with words that are an order to run. What is not built is refused before anything is read.
+/// Does what `turbo` does with words that are an order to run. What is not built is refused before
+/// anything is read.
 pub fn run_order<W: Spawner, S: StoreDevice, K: Sink>(
     alloc: Global,
     order: &RunOrder,
@@ -118,7 +140,10 @@ pub fn run_order<W: Spawner, S: StoreDevice, K: Sink>(
     ensures ran { W.tells → S.tells → IfDone result.0
         (RanOrder (W.effect (W.runs world.old).book) order.now env.now K.tells
         (moment_of (W.state world.old) (W.runs world.old) (S.content store) (K.written out.old))
-        (moment_of (W.state world.new) (W.runs world.new) (S.content result.1) (K.written out.new))) }
+        (moment_of (W.state world.new) (W.runs world.new) (S.content result.1)
+        (K.written out.new))) }
+    ensures lasts { S.tells
+        → IfDone result.0 (λ _. Only (S.content result.1) (S.images result.1)) }
 
     // What was refused.
     ensures refused { W.tells → S.tells → IfRefused result.0 (IsRefusedOrder (Ok (Run order.now))
@@ -137,13 +162,23 @@ pub fn run_order<W: Spawner, S: StoreDevice, K: Sink>(
     ensures stopped { W.tells → S.tells → K.tells → IfFault result.0
         (StoppedBy (Ok (Run order.now)) (W.effect (W.runs world.old).book) env.now K.tells
         (moment_of (W.state world.old) (W.runs world.old) (S.content store) (K.written out.old))
-        (moment_of (W.state world.new) (W.runs world.new) (S.content result.1) (K.written out.new))) }
+        (moment_of (W.state world.new) (W.runs world.new) (S.content result.1)
+        (K.written out.new))) }
 
     // Whatever it answers.
     ensures idle { IsIdle (W.runs world.new) }
     ensures book { (W.runs world.new).book ≡ (W.runs world.old).book }
     ensures elsewhere { W.tells → MayChangeBy (Ok (Run order.now)) env.now
         (W.state world.old).files (W.state world.new).files }
+    ensures sound { S.tells
+        → LeavesOnly S.moment S.images_since store result.1 (AddsTo (S.images store)) }
+    ensures left { W.tells → S.tells → IsTrustedBy (Ok (Run order.now))
+        (W.effect (W.runs world.old).book) env.now
+        (moment_of (W.state world.old) (W.runs world.old) (S.content store) (K.written out.old))
+        → LeavesOnly S.moment S.images_since store result.1
+        (IsLeftBy (Ok (Run order.now)) (W.effect (W.runs world.old).book) env.now
+        (moment_of (W.state world.old) (W.runs world.old) (S.content store) (K.written out.old))
+        (W.runs world.new).steps (S.images store)) }
     ensures cause { HasCauseIn
         (counts_at (W.state world.old) (W.runs world.old) (S.store_faults store) (K.faults out.old))
         (counts_at (W.state world.new) (W.runs world.new) (S.store_faults result.1)

@@ -56,7 +56,8 @@ pub(crate) fn help<K: Sink>(alloc: Global, out: &mut K) -> Answer
 
 /// Tries to print once which device failed. Whether that fails is not answered.
 pub(crate) fn tell<K: Sink>(alloc: Global, fault: DeviceFault, out: &mut K)
-    ensures told { K.tells → PrintsSome (device_fault_line fault) (K.written out.old) (K.written out.new) }
+    ensures told { K.tells
+        → PrintsSome (device_fault_line fault) (K.written out.old) (K.written out.new) }
     ensures later { K.faults out.old ≤ K.faults out.new }
 {
     let _ = emit(alloc, out, device_fault_text(fault).as_bytes());

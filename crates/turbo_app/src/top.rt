@@ -1,5 +1,6 @@
 // The top call.
 ghost use Rattle.std.specs.Prelude.{◌≡◌, ◌++◌, ◌<◌, ℕ, length};
+ghost use Rattle.store_dev.specs.Device.{LeavesOnly};
 ghost use Rattle.spawn_dev.specs.Spawn.{IsIdle};
 ghost use Rattle.refusals.specs.Refusals.{line_of, refusal_text};
 ghost use Rattle.turbo_app.specs.Answers.{
@@ -12,6 +13,7 @@ ghost use Rattle.turbo_app.specs.Answers.{
   counts_of,
 };
 ghost use Rattle.turbo_app.specs.Asking.{IsRefused, HasNoOther};
+ghost use Rattle.turbo_app.specs.Images.{AddsTo, IsTrustedIn, Lasts, MayBeLeft};
 ghost use Rattle.turbo_app.specs.Outcomes.{Did, MayChange, moment_of};
 ghost use Rattle.turbo_app.specs.Steps.{IsWordsRefusal};
 ghost use Rattle.turbo_app.specs.Stops.{IfFault, CutsRefusal, Stopped};
@@ -46,17 +48,28 @@ fn refuse_words<K: Sink>(alloc: Global, fault: WordsErr, out: &mut K) -> Answer
     refuse(alloc, Refusal::Words(fault), out)
 }
 
-/// Does all that the program does. `words` are those after the program's name, `env` the pairs of the environment. The
-/// store's device is kept while a run goes on, and handed back beside the answer.
+/// Does all that the program does. `words` are those after the program's name, `env` the pairs of
+/// the environment. The store's device is kept while a run goes on, and handed back beside the
+/// answer.
 ///
-/// An order to run makes a plan of the repository, opens the store, looks tasks up in it and runs the others, and prints
-/// the page as it comes; `--dry` says what a run would do. The first word `help`, or none, prints how the program is
-/// called. What is not built is refused by its number before anything is read: orders to prune, to sample and to make the store
-/// smaller, and runs with `--shared` or a `--cache` other than `local:rw`.
+/// An order to run makes a plan of the repository, opens the store, looks tasks up in it and runs
+/// the others, and prints the page as it comes; `--dry` says what a run would do. The first word
+/// `help`, or none, prints how the program is called. What is not built is refused by its number
+/// before anything is read: orders to prune, to sample and to make the store smaller, and runs with
+/// `--shared` or a `--cache` other than `local:rw`.
 ///
-/// A refusal's line is all that is printed; nothing was started then and nothing changed, but that a store of at most nine
-/// bytes may be made anew. What is tried comes in the order of `IsRefused`. After a fault of the tree, the store or of
-/// starting commands its text is tried once. After want of memory nothing more is printed.
+/// A refusal's line is all that is printed; nothing was started then and nothing changed, but that
+/// a store of at most nine bytes may be made anew. What is tried comes in the order of `IsRefused`.
+/// After a fault of the tree, the store or of starting commands its text is tried once. After want
+/// of memory nothing more is printed.
+///
+/// Whatever it answers, a crash at any moment leaves of the store the pairs that it had, and behind
+/// them some first part of those that are due by what was run so far. Where they told the truth as
+/// the call began, they still do (`truth_law`).
+///
+/// Why a task is not reported, and that each starts once at most, follows from the steps of a run
+/// by the laws of `schedule_laws`; that the page of a run which no failure stops does not depend on
+/// the order in which commands end, by that of `page_laws`.
 pub fn turbo<W: Spawner, S: StoreDevice, K: Sink>(
     alloc: Global,
     words: &[Text],
@@ -71,7 +84,10 @@ pub fn turbo<W: Spawner, S: StoreDevice, K: Sink>(
     ensures did { W.tells → S.tells → IfDone result.0
         (Did words.now (W.effect (W.runs world.old).book) env.now K.tells
         (moment_of (W.state world.old) (W.runs world.old) (S.content store) (K.written out.old))
-        (moment_of (W.state world.new) (W.runs world.new) (S.content result.1) (K.written out.new))) }
+        (moment_of (W.state world.new) (W.runs world.new) (S.content result.1)
+        (K.written out.new))) }
+    ensures lasts { S.tells → IfDone result.0 (λ _.
+        Lasts words.now (S.content result.1) (S.images result.1)) }
 
     // What was refused.
     ensures refused { W.tells → S.tells → IfRefused result.0
@@ -90,13 +106,23 @@ pub fn turbo<W: Spawner, S: StoreDevice, K: Sink>(
     ensures stopped { W.tells → S.tells → K.tells → IfFault result.0
         (Stopped words.now (W.effect (W.runs world.old).book) env.now K.tells
         (moment_of (W.state world.old) (W.runs world.old) (S.content store) (K.written out.old))
-        (moment_of (W.state world.new) (W.runs world.new) (S.content result.1) (K.written out.new))) }
+        (moment_of (W.state world.new) (W.runs world.new) (S.content result.1)
+        (K.written out.new))) }
 
     // Whatever it answers.
     ensures idle { IsIdle (W.runs world.new) }
     ensures book { (W.runs world.new).book ≡ (W.runs world.old).book }
     ensures elsewhere { W.tells
         → MayChange words.now env.now (W.state world.old).files (W.state world.new).files }
+    ensures sound { S.tells
+        → LeavesOnly S.moment S.images_since store result.1 (AddsTo (S.images store)) }
+    ensures left { W.tells → S.tells → IsTrustedIn words.now
+        (W.effect (W.runs world.old).book) env.now
+        (moment_of (W.state world.old) (W.runs world.old) (S.content store) (K.written out.old))
+        → LeavesOnly S.moment S.images_since store result.1
+        (MayBeLeft words.now (W.effect (W.runs world.old).book) env.now
+        (moment_of (W.state world.old) (W.runs world.old) (S.content store) (K.written out.old))
+        (W.runs world.new).steps (S.images store)) }
     ensures cause { HasCauseIn
         (counts_at (W.state world.old) (W.runs world.old) (S.store_faults store) (K.faults out.old))
         (counts_at (W.state world.new) (W.runs world.new) (S.store_faults result.1)

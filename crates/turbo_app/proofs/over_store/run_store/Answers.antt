@@ -1,5 +1,5 @@
 -- What stopped, dry or not.
-use Rattle.std.proofs.Common.{◌≡◌, Bool, true, false, List, refl, ◌∙◌, ap, Some}
+use Rattle.std.proofs.Common.{◌≡◌, ℕ, Bool, true, false, List, refl, ◌∙◌, ap, Some}
 use Rattle.listing.specs.KeyText.{Fits}
 use Rattle.cache_api.specs.Pairs.{Pair}
 use Rattle.run_laws.specs.Effects.{Book}
@@ -8,13 +8,20 @@ use Rattle.run_laws.specs.Pairs.{IsGood}
 use Rattle.run_laws.specs.Runs.{IsReady}
 use Rattle.run_plan.specs.declared.plan.Plan.{Plan}
 use Rattle.run_plan.specs.Openings.{Opening, setting_of}
-use Rattle.runner.specs.Answers.{opening_of}
-use Rattle.artifact_store.specs.Store.{state_of}
+use Rattle.runner.specs.Answers.{HasSafePairs, opening_of}
+use Rattle.spawn_dev.specs.declared.command.Step.{Step}
+use Rattle.task_devices.specs.Keeping.{IsFurther}
+use Rattle.store_dev.specs.Device.{LeavesOnly}
+use Rattle.artifact_store.specs.Store.{device_of, state_of}
+use Rattle.artifact_store.specs.Pairs.{stands_for, told_as}
 use Rattle.turbo_app.specs.Answers.{IfDone}
+use Rattle.turbo_app.specs.Images.{IsTrusted, IsTrustedRun, IsLeftByRun}
 use Rattle.turbo_app.specs.Outcomes.{Moment, moment_of, RanAs, RanPlan, RanPlanDry}
 use Rattle.turbo_app.specs.Stops.{IfFault, StopsRun}
 use Rattle.turbo_app.proofs.Printed.{if_fault, within}
-use Rattle.turbo_app.proofs.Finished.{dry_done, live_done}
+use Rattle.turbo_app.proofs.Finished.{done_as, dry_done, live_done}
+use Rattle.turbo_app.proofs.Left.{handed, further_told, left_told}
+use Rattle.turbo_app.proofs.Ready.{is_ready}
 use Rattle.turbo_app.proofs.over_store.run_store.Goals as goal
 
 pub returns-clause-stopped : goal.returns-clause-stopped
@@ -38,15 +45,8 @@ returns-clause-stopped g c told store heard stored = by c.args.is_dry refl
     opening : Opening
     opening = opening_of g.W.Spawner.effect (g.W.Spawner.runs c.args.world.now) (g.W.Tree.state c.args.world.now) (state_of c.args.store)
 
-    is_ready : IsStorable plan.mode book plan.listing → Fits plan.listing → IsGood book pairs → IsReady (setting_of plan opening)
-    is_ready storable fits good = record {
-      valid = record { ordered = c.requires.plan.ordered; fits = fits };
-      apart = c.requires.plan.apart;
-      behaved = g.met.W.Spawner.well_behaved (g.W.Spawner.runs c.args.world.now).book;
-      storable = storable;
-      good = good;
-      inputs = c.requires.inputs told;
-    }
+    ready : IsStorable plan.mode book plan.listing → Fits plan.listing → IsGood book pairs → IsReady (setting_of plan opening)
+    ready = is_ready plan opening c.requires.plan (g.met.W.Spawner.well_behaved (g.W.Spawner.runs c.args.world.now).book) (c.requires.inputs told)
 
     by : (dry : Bool) → c.args.is_dry ≡ dry → IfFault c.run_over-answer.result (StopsRun dry book plan pairs g.K.Sink.tells old new)
     by true is =
@@ -56,7 +56,7 @@ returns-clause-stopped g c told store heard stored = by c.args.is_dry refl
     by false is =
         let live = rw is at (c.run_over-answer.ensures.stopped told store heard) in
         within c.run_over-answer.result (IsStorable plan.mode book plan.listing) _ (λ storable. within c.run_over-answer.result (Fits plan.listing) _ (λ fits. within c.run_over-answer.result (IsGood book pairs) _
-        (λ good. if_fault c.run_over-answer.result _ _ (λ cause line stops. ((state_of c.run_over-answer.new.cache).room, (state_of c.run_over-answer.new.cache).pairs, stops)) (live (is_ready storable fits good)))))
+        (λ good. if_fault c.run_over-answer.result _ _ (λ cause line stops. ((state_of c.run_over-answer.new.cache).room, (state_of c.run_over-answer.new.cache).pairs, stops)) (live (ready storable fits good)))))
 
 pub returns-clause-ran : goal.returns-clause-ran
 returns-clause-ran g c told store stored opened = by c.args.is_dry refl
@@ -79,15 +79,8 @@ returns-clause-ran g c told store stored opened = by c.args.is_dry refl
     opening : Opening
     opening = opening_of g.W.Spawner.effect (g.W.Spawner.runs c.args.world.now) (g.W.Tree.state c.args.world.now) (state_of c.args.store)
 
-    is_ready : IsStorable plan.mode book plan.listing → Fits plan.listing → IsGood book pairs → IsReady (setting_of plan opening)
-    is_ready storable fits good = record {
-      valid = record { ordered = c.requires.plan.ordered; fits = fits };
-      apart = c.requires.plan.apart;
-      behaved = g.met.W.Spawner.well_behaved (g.W.Spawner.runs c.args.world.now).book;
-      storable = storable;
-      good = good;
-      inputs = c.requires.inputs told;
-    }
+    ready : IsStorable plan.mode book plan.listing → Fits plan.listing → IsGood book pairs → IsReady (setting_of plan opening)
+    ready = is_ready plan opening c.requires.plan (g.met.W.Spawner.well_behaved (g.W.Spawner.runs c.args.world.now).book) (c.requires.inputs told)
 
     by : (dry : Bool) → c.args.is_dry ≡ dry → IfDone c.run_over-answer.result (RanAs dry book plan g.K.Sink.tells old new)
     by true is =
@@ -110,5 +103,52 @@ returns-clause-ran g c told store stored opened = by c.args.is_dry refl
           left = c.device.ensures.pairs store whole;
           room = (state_of c.run_over-answer.new.cache).room;
           room_is = c.device.ensures.free store whole;
-          ran = λ storable fits good. ran (is_ready storable fits good);
+          ran = λ storable fits good. ran (ready storable fits good);
         })
+
+pub returns-clause-sound : goal.returns-clause-sound
+returns-clause-sound g c store =
+    let base = (state_of c.args.store).base in
+    let pairs = (state_of c.args.store).pairs in
+    handed c.args.store c.run_over-answer.new.cache c.device.result c.device.ensures.device (λ image. IsFurther pairs (told_as base image)) (λ image. IsFurther pairs (stands_for image))
+    (c.run_over-answer.ensures.images store) (further_told base pairs)
+
+pub returns-clause-lasts : goal.returns-clause-lasts
+returns-clause-lasts g c store = done_as _ _ c.run_over-answer.result (λ status whole. c.device.ensures.lasts store whole) c.run_over-answer.ensures.whole
+
+pub returns-clause-left : goal.returns-clause-left
+returns-clause-left g c told store trusted = by c.args.is_dry refl trusted
+  where
+    plan : Plan
+    plan = c.args.plan.now
+
+    pairs : List Pair
+    pairs = (state_of c.args.store).pairs
+
+    base : ℕ
+    base = (state_of c.args.store).base
+
+    book : Book
+    book = g.W.Spawner.effect (g.W.Spawner.runs c.args.world.now).book
+
+    opening : Opening
+    opening = opening_of g.W.Spawner.effect (g.W.Spawner.runs c.args.world.now) (g.W.Tree.state c.args.world.now) (state_of c.args.store)
+
+    steps : List Step
+    steps = (g.W.Spawner.runs c.run_over-answer.new.world).steps
+
+    room : ℕ
+    room = (state_of c.run_over-answer.new.cache).room
+
+    ready : IsTrusted book plan pairs → IsReady (setting_of plan opening)
+    ready trust = is_ready plan opening c.requires.plan (g.met.W.Spawner.well_behaved (g.W.Spawner.runs c.args.world.now).book) (c.requires.inputs told) trust.storable trust.fits trust.good
+
+    by : (dry : Bool) → c.args.is_dry ≡ dry → IsTrustedRun dry book plan pairs
+        → LeavesOnly g.S.StoreDevice.moment g.S.StoreDevice.images_since (device_of c.args.store) c.device.result (λ image. IsLeftByRun dry plan opening steps (stands_for image))
+    by true is trust =
+        handed c.args.store c.run_over-answer.new.cache c.device.result c.device.ensures.device (λ image. told_as base image ≡ Some pairs) _
+        (rw is at (c.run_over-answer.ensures.dry_left store)) (left_told true plan opening steps base)
+    by false is trust =
+        let live = rw is at (c.run_over-answer.ensures.left told store) in
+        handed c.args.store c.run_over-answer.new.cache c.device.result c.device.ensures.device (λ image. HasSafePairs plan opening room steps (told_as base image)) _
+        (live (ready trust)) (λ image safe. left_told false plan opening steps base image (room, safe))

@@ -13,6 +13,10 @@ use Rattle.turbo_app.specs.Outcomes.{Moment}
 use Rattle.refusals.specs.Stops.{is_failed}
 use Rattle.turbo_app.specs.Steps.{raised, AsksAs}
 use Rattle.turbo_app.specs.Stops.{StopsPlan, StoppedRun}
+use Rattle.store_dev.specs.Moments.{leaves_more}
+use Rattle.turbo_app.proofs.Left.{self_one, self_adds, unchanged}
+use Rattle.turbo_app.proofs.Finished.{done_as}
+use Rattle.turbo_app.proofs.NotBuilt.{if_refused}
 use Rattle.turbo_app.proofs.Printed.{if_fault, early_as}
 use Rattle.turbo_app.proofs.run_orders.run_built.Goals as goal
 
@@ -58,3 +62,37 @@ returns-in-Err-clause-stopped g c told store heard =
     if_fault c.unplanned.result _ _
     (λ cause line early. inl (early_as _ _ (λ reason is. inl (subst (λ stop. AsksAs c.args.order.now c.args.env.now (g.W.Tree.state c.args.world.now).files (Err stop)) is (c.in-Err.ensures.asks told))) _ _ cause line early))
     (c.unplanned.ensures.stopped heard)
+
+pub returns-in-Ok-clause-left : goal.returns-in-Ok-clause-left
+returns-in-Ok-clause-left g c told store trusted =
+    let s = g.S.StoreDevice in
+    let runs = g.met.W.Spawner.runs_by_rest _ _ c.asked.ensures.looks.rest in
+    let asks = c.in-Ok.ensures.asks told in
+    let left = c.run_plan.ensures.left told store in
+    let known = rw (runs, c.asked.ensures.looks.files) at left in
+    leaves_more s.moment s.images_since c.args.store c.run_plan.result.1 _ _ (known (trusted c.in-Ok.plan asks))
+    (λ image by_plan. inr (c.in-Ok.plan, asks, by_plan))
+
+pub returns-in-Err-clause-sound : goal.returns-in-Err-clause-sound
+returns-in-Err-clause-sound g c store =
+    let s = g.S.StoreDevice in
+    unchanged s.moment s.images_since s.images _ c.args.store (g.met.S.StoreDevice.only_now c.args.store) (self_adds (s.images c.args.store))
+
+pub returns-in-Err-clause-left : goal.returns-in-Err-clause-left
+returns-in-Err-clause-left g c told store trusted =
+    let s = g.S.StoreDevice in
+    let images = s.images c.args.store in
+    unchanged s.moment s.images_since s.images _ c.args.store (g.met.S.StoreDevice.only_now c.args.store) (λ image now. inl (self_one images image now))
+
+pub returns-in-Ok-clause-ran : goal.returns-in-Ok-clause-ran
+returns-in-Ok-clause-ran g c told store =
+    let runs = g.met.W.Spawner.runs_by_rest _ _ c.asked.ensures.looks.rest in
+    let ran = c.run_plan.ensures.ran told store in
+    let known = rw (runs, c.asked.ensures.looks.files) at ran in
+    done_as _ _ c.run_plan.result.0 (λ status was. record { plan = c.in-Ok.plan; asks = c.in-Ok.ensures.asks told; ran = was }) known
+
+pub returns-in-Ok-clause-refused : goal.returns-in-Ok-clause-refused
+returns-in-Ok-clause-refused g c told store =
+    if_refused c.run_plan.result.0 _ _
+    (λ reason no. inr (record { plan = c.in-Ok.plan; asks = c.in-Ok.ensures.asks told; fault = no.fault; reads = no.reads; is = no.is }))
+    (c.run_plan.ensures.refused store)

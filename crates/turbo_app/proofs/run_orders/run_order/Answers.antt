@@ -3,6 +3,7 @@ use Rattle.std.proofs.Common.{◌≡◌, Some, None, inl, refl, rules}
 use Rattle.refusals.specs.declared.refusal.Refusal.TheVariants as refusal
 use Rattle.turbo_app.specs.Asking.{unbuilt_run}
 use Rattle.turbo_app.proofs.Only.{only_refused}
+use Rattle.turbo_app.proofs.Left.{self_one, self_adds, unchanged}
 use Rattle.turbo_app.proofs.Printed.{if_fault, cuts_as, cut_early}
 use Rattle.turbo_app.proofs.NotBuilt.{not_done, if_refused, nothing_but, unbuilt_refused, built_refused, refused_unbuilt, refused_built, stopped_built}
 use Rattle.turbo_app.proofs.run_orders.run_order.Goals as goal
@@ -46,3 +47,17 @@ pub returns-in-None-clause-stopped : goal.returns-in-None-clause-stopped
 returns-in-None-clause-stopped g c told store heard =
     let is : unbuilt_run c.args.order.now ≡ None = search rules in
     if_fault c.run_built.result.0 _ _ (stopped_built c.args.order.now c.args.env.now _ _ _ _ is) (c.run_built.ensures.stopped told store heard)
+
+pub returns-in-Some-clause-sound : goal.returns-in-Some-clause-sound
+returns-in-Some-clause-sound g c store =
+    let s = g.S.StoreDevice in
+    unchanged s.moment s.images_since s.images _ c.args.store (g.met.S.StoreDevice.only_now c.args.store) (self_adds (s.images c.args.store))
+
+pub returns-in-Some-clause-left : goal.returns-in-Some-clause-left
+returns-in-Some-clause-left g c told store trusted =
+    let s = g.S.StoreDevice in
+    let images = s.images c.args.store in
+    unchanged s.moment s.images_since s.images _ c.args.store (g.met.S.StoreDevice.only_now c.args.store) (λ image now. inl (self_one images image now))
+
+pub returns-in-Some-clause-lasts : goal.returns-in-Some-clause-lasts
+returns-in-Some-clause-lasts g c store = not_done c.refuse.result _ c.refuse.ensures.not_done

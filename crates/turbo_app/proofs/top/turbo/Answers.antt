@@ -3,6 +3,7 @@ use Rattle.std.proofs.Common.{◌∙◌, ap, subst, Ok}
 use Rattle.cli_words.specs.declared.order.Order.TheVariants.{Run}
 use Rattle.turbo_app.specs.Asking.{IsRefusedOrder}
 use Rattle.turbo_app.proofs.Causes.{no_fault}
+use Rattle.turbo_app.proofs.Left.{alone_adds, alone_left}
 use Rattle.turbo_app.proofs.top.turbo.Goals as goal
 
 pub run_order-requires-clause-wide : goal.run_order-requires-clause-wide
@@ -47,3 +48,33 @@ returns-in-Ok-Run-clause-only g c told store reason refused =
     let stored = g.S.StoreDevice.content c.args.store in
     let order = c.in-Ok-Run.ensures.order ∙ ap (λ o. Ok o) c.in-Ok-Run.field-0-is in
     c.run_order.ensures.only told store reason (subst (λ o. IsRefusedOrder o c.args.env.now files stored reason) order refused)
+
+pub returns-in-Ok-Help-clause-sound : goal.returns-in-Ok-Help-clause-sound
+returns-in-Ok-Help-clause-sound g c store = alone_adds g.S.StoreDevice.moment g.S.StoreDevice.images_since g.S.StoreDevice.images c.args.store (g.met.S.StoreDevice.only_now c.args.store)
+
+pub returns-in-Ok-Help-clause-left : goal.returns-in-Ok-Help-clause-left
+returns-in-Ok-Help-clause-left g c told store trusted = alone_left g.S.StoreDevice.moment g.S.StoreDevice.images_since g.S.StoreDevice.images c.args.store (g.met.S.StoreDevice.only_now c.args.store) _ _ _ _ _
+
+pub returns-in-Ok-Prune-clause-sound : goal.returns-in-Ok-Prune-clause-sound
+returns-in-Ok-Prune-clause-sound g c store = alone_adds g.S.StoreDevice.moment g.S.StoreDevice.images_since g.S.StoreDevice.images c.args.store (g.met.S.StoreDevice.only_now c.args.store)
+
+pub returns-in-Ok-Prune-clause-left : goal.returns-in-Ok-Prune-clause-left
+returns-in-Ok-Prune-clause-left g c told store trusted = alone_left g.S.StoreDevice.moment g.S.StoreDevice.images_since g.S.StoreDevice.images c.args.store (g.met.S.StoreDevice.only_now c.args.store) _ _ _ _ _
+
+pub returns-in-Ok-Sample-clause-sound : goal.returns-in-Ok-Sample-clause-sound
+returns-in-Ok-Sample-clause-sound g c store = alone_adds g.S.StoreDevice.moment g.S.StoreDevice.images_since g.S.StoreDevice.images c.args.store (g.met.S.StoreDevice.only_now c.args.store)
+
+pub returns-in-Ok-Sample-clause-left : goal.returns-in-Ok-Sample-clause-left
+returns-in-Ok-Sample-clause-left g c told store trusted = alone_left g.S.StoreDevice.moment g.S.StoreDevice.images_since g.S.StoreDevice.images c.args.store (g.met.S.StoreDevice.only_now c.args.store) _ _ _ _ _
+
+pub returns-in-Ok-Compact-clause-sound : goal.returns-in-Ok-Compact-clause-sound
+returns-in-Ok-Compact-clause-sound g c store = alone_adds g.S.StoreDevice.moment g.S.StoreDevice.images_since g.S.StoreDevice.images c.args.store (g.met.S.StoreDevice.only_now c.args.store)
+
+pub returns-in-Ok-Compact-clause-left : goal.returns-in-Ok-Compact-clause-left
+returns-in-Ok-Compact-clause-left g c told store trusted = alone_left g.S.StoreDevice.moment g.S.StoreDevice.images_since g.S.StoreDevice.images c.args.store (g.met.S.StoreDevice.only_now c.args.store) _ _ _ _ _
+
+pub returns-clause-sound : goal.returns-clause-sound
+returns-clause-sound g c store = alone_adds g.S.StoreDevice.moment g.S.StoreDevice.images_since g.S.StoreDevice.images c.args.store (g.met.S.StoreDevice.only_now c.args.store)
+
+pub returns-clause-left : goal.returns-clause-left
+returns-clause-left g c told store trusted = alone_left g.S.StoreDevice.moment g.S.StoreDevice.images_since g.S.StoreDevice.images c.args.store (g.met.S.StoreDevice.only_now c.args.store) _ _ _ _ _
