@@ -1,10 +1,11 @@
 // What is known of the frames of a store, and opening its device again by it.
-ghost use Rattle.std.specs.Prelude.{◌≡◌, ◌≤◌, ℕ, List, Some, length, take, IsTrue, IfOk, IfErr};
+ghost use Rattle.std.specs.Prelude.{◌≡◌, ◌≤◌, ℕ, List, Some, length, take};
+ghost use Rattle.std.specs.Prelude.{IsTrue, IfOk, IfErr, OnOk};
 ghost use Rattle.rel_path.specs.Causes.{Counts};
 ghost use Rattle.cache_api.specs.Cache.{IsFindErr, is_fault as is_find_fault};
 ghost use Rattle.record_log.specs.Kinds.{Entry};
-ghost use Rattle.record_log.specs.Log.{is_whole, device_of as log_device, frames_in};
-ghost use Rattle.blob_pool.specs.Known.{Knows, OnlyReadsLog};
+ghost use Rattle.record_log.specs.Log.{is_whole, count_of, device_of as log_device, frames_in};
+ghost use Rattle.blob_pool.specs.Known.{Knows, KnowsFirst, StandsBelow, OnlyReadsLog};
 ghost use Rattle.pair_reader.specs.Answers.{Ascend};
 ghost use Rattle.pair_index.specs.Index.{Indexes, IsIndexOf, FramesBelow, lengths_in};
 
@@ -22,9 +23,11 @@ use store_dev::StoreDevice;
 #[derive(Drop)]
 pub struct StoreMark {
     log: LogMark,
-    // How many frames the index knows.
+    // How many frames the pool and the index know.
     count: u64,
+    pool: Pool,
     index: Index,
+    pub ghost bounds: { StandsBelow pool count },
     pub ghost below: { FramesBelow index count },
 }
 
@@ -40,6 +43,7 @@ impl StoreMark {
         StoreMark {
             log: LogMark::new(alloc),
             count: 0,
+            pool: Pool::new(alloc),
             index: Index::new(alloc, lengths),
         }
     }
@@ -72,13 +76,14 @@ impl<S: StoreDevice> Store<S> {
         let mark = StoreMark {
             log,
             count,
+            pool: self.pool,
             index: self.index,
         };
         (mark, store)
     }
 
-    /// Opens a device again of whose frames some are known. Of those it reads only the digests of
-    /// contents, and the ones behind them as `open` does. It answers as `open`.
+    /// Opens a device again of whose frames some are known. Of those it reads none, and the ones
+    /// behind them as `open` does. It answers as `open`.
     pub fn resume(
         alloc: Global,
         store: S,
@@ -89,7 +94,7 @@ impl<S: StoreDevice> Store<S> {
         ensures unopened { IfErr result (IsUnopened S.StoreDevice store) }
     {
         match Log::resume(alloc, store, mark.log) {
-            Ok(log) => Store::of_log(alloc, log, mark.index, mark.count),
+            Ok(log) => Store::of_log(alloc, log, mark.pool, mark.index, mark.count),
             Err(Unopened { fault, store }) => Err(Unopened {
                 fault: open_err(fault),
                 store,
@@ -97,22 +102,26 @@ impl<S: StoreDevice> Store<S> {
         }
     }
 
-    /// The store of a log that was opened, the first so many of whose frames the index knows.
+    /// The store of a log that was opened, of whose first so many frames the contents and the pairs
+    /// are known.
     fn of_log(
         alloc: Global,
         log: Log<S>,
+        pool: Pool,
         index: Index,
         count: u64,
     ) -> Result<Store<S>, Unopened<S, OpenErr>>
         requires whole { IsTrue (is_whole log) }
         requires few { S.tells → count ≤ length (frames_in log) }
+        requires contents { S.tells → KnowsFirst pool (frames_in log) count }
+        requires bounds { StandsBelow pool count }
         requires known { S.tells → IsIndexOf index (take count (frames_in log)) }
         requires below { FramesBelow index count }
         ensures ok { IfOk result (IsStoreOf log (lengths_in index)) }
         ensures err { IfErr result (IsUnread log) }
     {
         let mut log = log;
-        match read_behind(alloc, &mut log, index, count) {
+        match read_behind(alloc, &mut log, pool, index, count) {
             Ok((pool, index)) => {
                 let generation = log.generation();
                 Ok(Store {
@@ -130,16 +139,19 @@ impl<S: StoreDevice> Store<S> {
     }
 }
 
-/// What is known of the contents and the pairs of a log, of whose first frames the index knows so
-/// many.
+/// What is known of the contents and the pairs of a log, of whose first so many frames they are
+/// known. It reads the frames behind these.
 fn read_behind<S: StoreDevice>(
     alloc: Global,
     log: &mut Log<S>,
+    pool: Pool,
     index: Index,
     count: u64,
 ) -> Result<(Pool, Index), CacheErr>
     requires whole { IsTrue (is_whole log.old) }
     requires few { S.tells → count ≤ length (frames_in log.old) }
+    requires contents { S.tells → KnowsFirst pool (frames_in log.old) count }
+    requires bounds { StandsBelow pool count }
     requires known { S.tells → IsIndexOf index (take count (frames_in log.old)) }
     requires below { FramesBelow index count }
     ensures pool { IfOk result (λ r. Knows r.0 log.new) }
@@ -150,38 +162,47 @@ fn read_behind<S: StoreDevice>(
     ensures cause { Counts is_find_fault (S.store_faults (log_device log.old))
         (S.store_faults (log_device log.new)) result }
 {
-    let pool = read_pool(alloc, log)?;
-    let (mut index, first) = known_of(alloc, index, count, log.frames());
+    let (mut pool, mut index, first) = known_of(alloc, pool, index, count, log.frames());
+    read_contents(log, &mut pool, first)?;
     index.read_from(alloc, &pool, log, first)?;
     Ok((pool, index))
 }
 
-/// What the index knows of a log with so many frames, and of how many. A device that tells nothing
-/// may have lost some, and then all are read again.
-fn known_of(alloc: Global, index: Index, count: u64, frames: u64) -> (Index, u64)
-    requires { FramesBelow index count }
-    ensures known { count ≤ frames → result ≡ (index, count) }
-    ensures few { result.1 ≤ frames }
-    ensures below { FramesBelow result.0 result.1 }
-    ensures lengths { lengths_in result.0 ≡ lengths_in index }
+/// What is known of a log with so many frames, and of how many. A device that tells nothing may
+/// have lost some, and then all are read again.
+fn known_of(alloc: Global, pool: Pool, index: Index, count: u64, frames: u64) -> (Pool, Index, u64)
+    requires bounds { StandsBelow pool count }
+    requires below { FramesBelow index count }
+    ensures known { count ≤ frames → result ≡ (pool, index, count) }
+    ensures few { result.2 ≤ frames }
+    ensures bounds { StandsBelow result.0 result.2 }
+    ensures below { FramesBelow result.1 result.2 }
+    ensures lengths { lengths_in result.1 ≡ lengths_in index }
 {
     if count <= frames {
-        (index, count)
+        (pool, index, count)
     } else {
-        (index.cleared(alloc), 0)
+        (Pool::new(alloc), index.cleared(alloc), 0)
     }
 }
 
-/// What is known of the contents of a log.
-fn read_pool<S: StoreDevice>(alloc: Global, log: &mut Log<S>) -> Result<Pool, CacheErr>
-    ensures pool { IfOk result (λ pool. Knows pool log.new) }
+/// What is known of the contents of a log, of whose first so many frames they are known.
+fn read_contents<S: StoreDevice>(
+    log: &mut Log<S>,
+    pool: &mut Pool,
+    first: u64,
+) -> Result<(), CacheErr>
+    requires first { first ≤ count_of log.old }
+    requires known { S.tells → KnowsFirst pool.old (frames_in log.old) first }
+    requires bounds { StandsBelow pool.old first }
+    ensures pool { OnOk result (Knows pool.new log.new) }
     ensures log { OnlyReadsLog log.old log.new }
     ensures answers { IfErr result IsFindErr }
     ensures cause { Counts is_find_fault (S.store_faults (log_device log.old))
         (S.store_faults (log_device log.new)) result }
 {
-    match Pool::read(alloc, log) {
-        Ok(pool) => Ok(pool),
+    match pool.read_from(log, first) {
+        Ok(()) => Ok(()),
         Err(LogErr::Failed) => Err(CacheErr::Failed),
         Err(_) => Err(CacheErr::OutOfMemory),
     }

@@ -37,6 +37,15 @@ pub record IsPoolOf (pool : Pool) (fs : List Entry) : Type 0 where
   pub places : places_in pool ≡ places_from 0 fs
   pub digests : digests_in pool ≡ map (λ e. e.key) (blobs_in fs)
 
+-- of the first so many of these frames
+abbrev pub KnowsFirst : Pool → List Entry → ℕ → Type 0
+KnowsFirst pool fs n = IsPoolOf pool (take n fs)
+
+-- its places are below that number, and each has a digest
+pub record StandsBelow (pool : Pool) (n : ℕ) : Type 0 where
+  pub below : (i : ℕ) → i < count_in pool → get_or (places_in pool) i 0 < n
+  pub even : length (digests_in pool) ≡ length (places_in pool)
+
 -- The pool of a log. What is said of places and digests holds also where the device tells no bytes.
 pub record Knows {S : Type 0} {G : Ghosts S} (pool : Pool) (log : Log S G) : Type 0 where
   pub told : G.tells → IsPoolOf pool (known_in log)

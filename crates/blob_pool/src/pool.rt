@@ -12,7 +12,7 @@ ghost use Rattle.record_log.specs.Log.{frames_in, count_of, is_whole, room_of, C
 ghost use Rattle.record_log.specs.Answers.{IsAppendErr, IsReadErr};
 ghost use Rattle.blob_pool.specs.Contents.{content_at, places_from};
 ghost use Rattle.blob_pool.specs.Pool.{first_of, missing};
-ghost use Rattle.blob_pool.specs.Known.{Knows, HoldsTheSame, OnlyReadsLog, ReadsAtMostOnce, known_in, count_in, places_in, digests_in, room_in};
+ghost use Rattle.blob_pool.specs.Known.{Knows, KnowsFirst, StandsBelow, IsPoolOf, HoldsTheSame, OnlyReadsLog, ReadsAtMostOnce, known_in, count_in, places_in, digests_in, room_in};
 ghost use Rattle.blob_pool.specs.Answers.{IsFullFor};
 
 use crate::digest::{digest_at, digest_of};
@@ -37,10 +37,10 @@ pub struct Pool {
 }
 
 impl Pool {
-    /// Of a log with no contents.
-    fn new(alloc: Global) -> Pool
-        ensures places { places_in result ≡ [] }
-        ensures digests { digests_in result ≡ [] }
+    /// Of no frames.
+    pub fn new(alloc: Global) -> Pool
+        ensures none { IsPoolOf result [] }
+        ensures bounds { StandsBelow result 0 }
     {
         Pool {
             places: Vec::new(alloc),
@@ -56,13 +56,28 @@ impl Pool {
         ensures cause { CountsIn log.old log.new result }
     {
         let mut pool = Pool::new(alloc);
-        for number in 0..log.frames() {
+        pool.read_from(log, 0)?;
+        Ok(pool)
+    }
+
+    /// Goes on from the contents of the first so many frames of a log to those of all, and reads the digests of those
+    /// behind them alone.
+    pub fn read_from<S: StoreDevice>(&mut self, log: &mut Log<S>, first: u64) -> Result<(), LogErr>
+        requires first { first ≤ count_of log.old }
+        requires known { S.tells → KnowsFirst self.old (frames_in log.old) first }
+        requires bounds { StandsBelow self.old first }
+        ensures pool { OnOk result (Knows self.new log.new) }
+        ensures log { OnlyReadsLog log.old log.new }
+        ensures answers { IfErr result IsReadErr }
+        ensures cause { CountsIn log.old log.new result }
+    {
+        for number in first..log.frames() {
             if log.kind_at(number) == CONTENT {
                 let digest = digest_at(log, number)?;
-                pool.learn(number, digest)?;
+                self.learn(number, digest)?;
             }
         }
-        Ok(pool)
+        Ok(())
     }
 
     /// How many contents there are.

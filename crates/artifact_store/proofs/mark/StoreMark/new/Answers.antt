@@ -7,5 +7,6 @@ returns-clause-mark c fs = record {
   count = ap length c.new.ensures.seats;
   few = omega arith;
   log = mark_none c.new.result c.new.ensures.seats c.new.ensures.end c.new.ensures.contents c.new.ensures.generation fs;
-  index = c.new-2.ensures.none;
+  pool = c.new-2.ensures.none;
+  index = c.new-3.ensures.none;
 }

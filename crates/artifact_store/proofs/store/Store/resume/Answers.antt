@@ -4,6 +4,7 @@ use Rattle.std.proofs.lemmas.Result.{IfOk-weaker, IfErr-weaker}
 use Rattle.rel_path.specs.Causes.{Counts}
 use Rattle.record_log.specs.Kinds.{Entry}
 use Rattle.record_log.specs.Frames.{reading, frames_of, ReadsAsOneOf}
+use Rattle.blob_pool.specs.Known.{KnowsFirst}
 use Rattle.pair_index.specs.Index.{IsIndexOf}
 use Rattle.artifact_store.specs.Answers.{IsFaultOf, is_fault, raised}
 use Rattle.artifact_store.specs.Pairs.{IsOneOf}
@@ -21,6 +22,14 @@ of_log-requires-clause-few g c told =
     let now = frames_of (s.content c.in-Ok.log.device) in
     subst (λ (l : List Entry). c.args.mark.count ≤ length l) (frames_are bytes now (c.in-Ok.ensures.ok told).frames)
     (c.requires told).few
+
+pub of_log-requires-clause-contents : goal.of_log-requires-clause-contents
+of_log-requires-clause-contents g c told =
+    let s = g.S.StoreDevice in
+    let bytes = s.content c.args.store in
+    let now = frames_of (s.content c.in-Ok.log.device) in
+    subst (λ (l : List Entry). KnowsFirst c.args.mark.pool l c.args.mark.count)
+    (frames_are bytes now (c.in-Ok.ensures.ok told).frames) (c.requires told).pool
 
 pub of_log-requires-clause-known : goal.of_log-requires-clause-known
 of_log-requires-clause-known g c told =
