@@ -82,8 +82,9 @@ impl<S: StoreDevice> Store<S> {
         (mark, store)
     }
 
-    /// Opens a device again of whose frames some are known. Of those it reads none, and the ones
-    /// behind them as `open` does. It answers as `open`.
+    /// Opens a device again of whose frames some are known. It reads only the frames behind these,
+    /// as `open` does, and in front of them no more than contents that keys behind them name. It
+    /// answers as `open`.
     pub fn resume(
         alloc: Global,
         store: S,

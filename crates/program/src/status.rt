@@ -1,7 +1,7 @@
 // What the program does over any devices, and the status that it ends with.
 ghost use Rattle.std.specs.Prelude.{◌≡◌};
 ghost use Rattle.spawn_dev.specs.Spawn.{IsIdle};
-ghost use Rattle.turbo_app.specs.Answers.{exit_status as status_of, IfDone, IfRefused, HasCauseIn, IsNoFault, IsQuiet, counts_of};
+ghost use Rattle.turbo_app.specs.Answers.{exit_status as status_of, IfDone, IfRefused, HasCauseIn, IsNoFault, IsQuiet, counts_at};
 ghost use Rattle.turbo_app.specs.Asking.{IsRefused};
 ghost use Rattle.turbo_app.specs.Outcomes.{Did, moment_of};
 
@@ -34,22 +34,19 @@ pub fn exit_status<W: Spawner, S: StoreDevice, K: Sink>(
     ensures status { result.status ≡ status_of result.answer }
     ensures did { W.tells → S.tells → IfDone result.answer (Did words.now
         (W.effect (W.runs world.old).book) env.now K.tells
-        (moment_of (W.state world.old).files (W.runs world.old).steps
-        (S.content store) (K.written out.old))
-        (moment_of (W.state world.new).files (W.runs world.new).steps
-        (S.content result.store) (K.written out.new))) }
+        (moment_of (W.state world.old) (W.runs world.old) (S.content store) (K.written out.old))
+        (moment_of (W.state world.new) (W.runs world.new) (S.content result.store)
+        (K.written out.new))) }
     ensures refused { W.tells → S.tells → IfRefused result.answer
         (IsRefused words.now env.now (W.state world.old).files (S.content store)) }
     ensures cause { HasCauseIn
-        (counts_of (W.state world.old).faults (S.store_faults store)
-        (W.runs world.old).faults (K.faults out.old))
-        (counts_of (W.state world.new).faults (S.store_faults result.store)
-        (W.runs world.new).faults (K.faults out.new)) result.answer }
+        (counts_at (W.state world.old) (W.runs world.old) (S.store_faults store) (K.faults out.old))
+        (counts_at (W.state world.new) (W.runs world.new) (S.store_faults result.store)
+        (K.faults out.new)) result.answer }
     ensures quiet { IsQuiet
-        (counts_of (W.state world.old).faults (S.store_faults store)
-        (W.runs world.old).faults (K.faults out.old))
-        (counts_of (W.state world.new).faults (S.store_faults result.store)
-        (W.runs world.new).faults (K.faults out.new)) → IsNoFault result.answer }
+        (counts_at (W.state world.old) (W.runs world.old) (S.store_faults store) (K.faults out.old))
+        (counts_at (W.state world.new) (W.runs world.new) (S.store_faults result.store)
+        (K.faults out.new)) → IsNoFault result.answer }
 {
     let (answer, store) = turbo(alloc, words, env, world, store, out);
     Outcome {
