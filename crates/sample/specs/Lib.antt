@@ -1,0 +1,2 @@
+pub mod Repository
+pub mod Lines
