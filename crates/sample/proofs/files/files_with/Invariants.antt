@@ -1,6 +1,0 @@
-use Rattle.std.proofs.Common.{◌≡◌, map, take}
-use Rattle.sample.specs.Repository.{file_with}
-use Rattle.sample.proofs.files.files_with.Given as goal
-
-abbrev pub invariant-loop-file : goal.invariant-loop-file
-invariant-loop-file l = l.changed ≡ map (file_with l.path l.first) (take l.file-index l.files)

@@ -1,6 +1,0 @@
-use Rattle.std.proofs.Common.{◌≡◌}
-use Rattle.sample.specs.Repository.{rules_of_first}
-use Rattle.sample.proofs.rules.sample_rules.Given as goal
-
-abbrev pub invariant-loop-number : goal.invariant-loop-number
-invariant-loop-number l = l.rules.items ≡ rules_of_first l.number

@@ -1,2 +1,0 @@
-pub mod Repository
-pub mod Lines
