@@ -21,4 +21,5 @@ mod wanted;
 pub use collecting::collect;
 pub use error::CollectErr;
 pub use laws::listing_law;
+pub use uses::{starts_of, uses_of};
 pub use wanted::Wanted;

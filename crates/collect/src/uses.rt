@@ -46,8 +46,9 @@ fn add_needs(starts: &mut Vec<Start>, from: &Text, needs: &Needs) -> Result<(), 
     Ok(())
 }
 
-/// What is looked up for the owner: what it needs from its folder, and what the root needs.
-fn starts_of(alloc: Global, packages: &Packages, number: u32) -> Result<Vec<Start>, CollectErr>
+/// What is looked up in the lockfile for the owner of this number: what it needs, from its folder, and what the root
+/// needs, from the root. Its only error is want of memory.
+pub fn starts_of(alloc: Global, packages: &Packages, number: u32) -> Result<Vec<Start>, CollectErr>
     requires { number < length (owners packages.now) }
     ensures value { IfOk result (λ starts. HoldsAt
         (λ p. starts.items ≡ starts_of packages.now p) (owners packages.now) number) }
@@ -61,8 +62,12 @@ fn starts_of(alloc: Global, packages: &Packages, number: u32) -> Result<Vec<Star
     Ok(starts)
 }
 
-/// The installed packages that the owner uses.
-fn uses_of(
+/// The installed packages that the owner of this number uses: the location of each in the lockfile, ascending, with its
+/// entry there as JSON without blanks. Without a lockfile there are none.
+///
+/// # Errors
+/// `Missing` where a name that is neither optional nor a peer finds nothing: the least location with its least name.
+pub fn uses_of(
     alloc: Global,
     packages: &Packages,
     lock: Option<&Lock>,

@@ -10,6 +10,7 @@ use Rattle.std.specs.Cmp.{IsTotalOrder, IsEquivalence}
 use Rattle.std.proofs.lemmas.Bool.{false≢true}
 use Rattle.std.proofs.lemmas.Map.Keys.{IsDistinct-cons}
 use Rattle.std.proofs.lemmas.Map.Made.{length-le_from_is_member}
+use Rattle.plan_laws.specs.Least.{both_ways}
 
 pub or_cases : (a b : Bool) → (a || b) ≡ true → (a ≡ true) ⊎ (b ≡ true)
 or_cases true b e = inl refl
@@ -22,11 +23,6 @@ or_left false b e = absurd (false≢true e)
 pub or_right : (a b : Bool) → b ≡ true → (a || b) ≡ true
 or_right true b e = refl
 or_right false b e = e
-
-pub both_ways : (s t : Bool) → (s ≡ true → t ≡ true) → (t ≡ true → s ≡ true) → s ≡ t
-both_ways true t f g = sym (f refl)
-both_ways false true f g = g refl
-both_ways false false f g = refl
 
 pub by_false : (b : Bool) → (b ≡ true → ⊥) → b ≡ false
 by_false true never = absurd (never refl)

@@ -22,7 +22,7 @@ use Rattle.collect.specs.Listings.{IsListing}
 use Rattle.collect.specs.Refusals.{FindsAll, IsMissingOf, IsFirstMissing, Collects}
 use Rattle.plan_laws.proofs.Places.{from_some, all_at, all_before}
 use Rattle.plan_laws.proofs.Pairing.{one_pairing}
-use Rattle.plan_laws.proofs.Installed.{one_uses, found_or_missing, one_missing}
+use Rattle.plan_laws.specs.Installed.{one_uses, found_or_missing, one_missing}
 
 -- ---- installed packages
 

@@ -13,7 +13,7 @@ use Rattle.task_graph.specs.Ids.{id_cmp, has}
 use Rattle.task_graph.specs.Plans.{IsFirst}
 use Rattle.task_graph.specs.Cycles.{TakesAway, is_left, Steps, Chain, IsWay, AreApart, IsCycle}
 use Rattle.plan_laws.proofs.Ascending.{or_left, or_right, or_cases}
-use Rattle.plan_laws.proofs.Least.{one_least, by_two_total, firsts_tied, seconds_tied}
+use Rattle.plan_laws.specs.Least.{one_least, by_two_total, firsts_tied, seconds_tied}
 
 -- ---- tasks
 

@@ -1,7 +1,5 @@
 mod Ascending
 mod Walking
-mod Least
-mod Installed
 mod Places
 mod Selected
 mod Pairing

@@ -12,7 +12,7 @@ use Rattle.filters.specs.declared.filter.Filter.{Filter}
 use Rattle.filters.specs.Words.{has_dots, leaves_core}
 use Rattle.filters.specs.Selection.{IsReachedIf, core_in, Takes, Taking, is_included, is_excluded, AreSelected, AreSelectedBy}
 use Rattle.plan_laws.proofs.Ascending.{one_ascending}
-use Rattle.plan_laws.proofs.Least.{one_least}
+use Rattle.plan_laws.specs.Least.{one_least}
 
 abbrev is_same : ℕ → ℕ → Bool
 is_same p q = p == q

@@ -2,7 +2,7 @@
 use cli_words::WordsErr;
 use os_edge::STORE_PATH;
 use rel_path::Text;
-use turbo_app::{Answer, CACHE_FORM, COMPACT_FORM, PRUNE_FORM, Refusal, SAMPLE_FORM, SHARED_FORM};
+use turbo_app::{Answer, CACHE_FORM, COMPACT_FORM, Refusal, SAMPLE_FORM, SHARED_FORM};
 
 /// Says what the page leaves out: that memory was wanting, what to do about a store that is not read, which word was
 /// refused, and what is not built. Whether it could be printed is not answered.
@@ -27,7 +27,6 @@ pub(crate) fn say_out_of_memory<R: Eprint>(rt: &R) {
 // The command or option that was refused by its number.
 fn say_not_built<R: Eprint>(rt: &R, form: u8) {
     let what = match form {
-        PRUNE_FORM => "prune",
         CACHE_FORM => "--cache with any value but local:rw",
         SHARED_FORM => "--shared",
         SAMPLE_FORM => "sample",

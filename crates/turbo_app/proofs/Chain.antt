@@ -1,14 +1,11 @@
 -- In a chain of images that began with an empty store all pairs tell the truth.
 use Rattle.std.proofs.Common.{◌≡◌, ◌≤◌, ℕ, List, [], ◌∷◌, ◌++◌, length, map, Option, Some, None, Ok, refl, sym, ◌∙◌, ap}
 use Rattle.std.specs.List.{AllByRecursion}
-use Rattle.std.proofs.lemmas.Bool.{le-ltb}
 use Rattle.cache_api.specs.Pairs.{Pair}
-use Rattle.record_log.specs.Frames.{reading}
-use Rattle.pair_frames.specs.Pairs as frames
 use Rattle.artifact_store.specs.Pairs.{stands_for}
-use Rattle.artifact_store.specs.Laws.{stands_is}
 use Rattle.run_laws.specs.Effects.{Book}
 use Rattle.run_laws.specs.Pairs.{IsGood, IsHistory}
+use Rattle.run_orders.specs.Facts.{short_stands}
 use Rattle.turbo_app.specs.Images.{IsChain, HasGoodPairs}
 
 -- the pairs of the bytes, and none where they are no store
@@ -19,15 +16,6 @@ pub pairs_are : (bytes : List ℕ) (pairs : List Pair) → stands_for bytes ≡ 
     → pairs_of bytes ≡ pairs
 pairs_are bytes pairs is =
     ap (λ (o : Option (List Pair)). elim o as (λ _. List Pair) [ Some l ↦ l | None ↦ [] ]) is
-
--- at most nine bytes are an empty store
-pub short_read : (bytes : List ℕ) → length bytes ≤ 9 → reading bytes ≡ Ok []
-unfolding reading
-short_read bytes short = rw (le-ltb _ _ short) refl
-
-pub short_stands : (bytes : List ℕ) → length bytes ≤ 9 → stands_for bytes ≡ Some []
-unfolding frames.pairs_in
-short_stands bytes short = stands_is bytes [] (short_read bytes short)
 
 module _ (book : Book) where
   pub history : (before : List ℕ) (images : List (List ℕ)) → IsChain book before images

@@ -1,9 +1,3 @@
-mod Causes
-mod Printed
-mod Finished
-mod Only
-mod NotBuilt
-mod Left
+mod Alone
 mod Chain
-mod Ready
 mod Truth

@@ -11,8 +11,9 @@ use Rattle.cli_words.specs.declared.error.WordsErr.{WordsErr}
 use Rattle.run_laws.specs.Effects.{Book}
 use Rattle.run_laws.specs.Pairs.{IsGood}
 use Rattle.run_plan.specs.declared.plan.Plan.{Plan}
-use Rattle.turbo_app.specs.Outcomes.{Moment}
-use Rattle.turbo_app.specs.Images.{IsLeftBy, IsLeftByOrder, IsLeftByPlan, TellsTruth}
+use Rattle.answers.specs.Moments.{Moment}
+use Rattle.run_orders.specs.Images.{IsLeftByOrder, IsLeftByPlan}
+use Rattle.turbo_app.specs.Images.{IsLeftBy, TellsTruth}
 
 same_pairs : {a b : List Pair} → Some a ≡ Some b → a ≡ b
 same_pairs is =

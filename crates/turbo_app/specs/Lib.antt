@@ -1,6 +1,5 @@
-pub mod Answers
 pub mod Asking
-pub mod Images
 pub mod Outcomes
-pub mod Steps
 pub mod Stops
+pub mod Images
+pub mod Steps

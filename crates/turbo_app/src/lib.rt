@@ -2,23 +2,19 @@
 //! output.
 //!
 //! `specs/` says what words ask for and why they are refused (`Asking`), what a call leaves that
-//! came to its end (`Outcomes`) or was stopped (`Stops`), what a crash leaves of the store
-//! meanwhile (`Images`), and what answers say of the devices (`Answers`).
+//! came to its end (`Outcomes`) or was stopped (`Stops`), and what a crash leaves of the store
+//! meanwhile (`Images`). `answers` says what answers say of the devices, `run_orders` and
+//! `prune_orders` what becomes of an order to run and to prune.
 #![tactic(auto)]
 
-mod answer;
-mod asking;
+mod help;
 mod laws;
-mod over_cache;
-mod over_store;
-mod run_orders;
-mod telling;
 mod top;
 mod unbuilt;
 
-pub use answer::Answer;
+pub use answers::Answer;
 pub use laws::{image_law, truth_law};
 pub use refusals::Refusal;
-pub use run_orders::run_order;
+pub use run_orders::{CACHE_FORM, SHARED_FORM, run_order};
 pub use top::turbo;
-pub use unbuilt::{CACHE_FORM, COMPACT_FORM, PRUNE_FORM, SAMPLE_FORM, SHARED_FORM};
+pub use unbuilt::{COMPACT_FORM, SAMPLE_FORM};

@@ -3,7 +3,7 @@ ghost use Rattle.std.specs.Prelude.{◌≡◌, ◌++◌, ◌<◌, ℕ, length};
 ghost use Rattle.store_dev.specs.Device.{LeavesOnly};
 ghost use Rattle.spawn_dev.specs.Spawn.{IsIdle};
 ghost use Rattle.refusals.specs.Refusals.{line_of, refusal_text};
-ghost use Rattle.turbo_app.specs.Answers.{
+ghost use Rattle.answers.specs.Answers.{
   IfDone,
   IfRefused,
   HasCauseIn,
@@ -12,19 +12,24 @@ ghost use Rattle.turbo_app.specs.Answers.{
   counts_at,
   counts_of,
 };
+ghost use Rattle.cli_words.specs.Orders.{order_of};
+ghost use Rattle.answers.specs.Moments.{moment_of};
+ghost use Rattle.answers.specs.Stops.{IfFault, CutsRefusal};
 ghost use Rattle.turbo_app.specs.Asking.{IsRefused, HasNoOther};
-ghost use Rattle.turbo_app.specs.Images.{AddsTo, IsTrustedIn, Lasts, MayBeLeft};
-ghost use Rattle.turbo_app.specs.Outcomes.{Did, MayChange, moment_of};
+ghost use Rattle.run_orders.specs.Images.{AddsTo};
+ghost use Rattle.turbo_app.specs.Images.{IsTrustedIn, Lasts, MayBeLeft};
+ghost use Rattle.turbo_app.specs.Outcomes.{AnsweredAlone, Did, KeepsStore, LeavesAsRefused, MayChange};
 ghost use Rattle.turbo_app.specs.Steps.{IsWordsRefusal};
-ghost use Rattle.turbo_app.specs.Stops.{IfFault, CutsRefusal, Stopped};
+ghost use Rattle.turbo_app.specs.Stops.{Stopped};
 
-use crate::Answer;
-use crate::run_orders::run_order;
-use crate::telling::{help, refuse};
-use crate::unbuilt::{COMPACT_FORM, PRUNE_FORM, SAMPLE_FORM};
+use crate::help::help;
+use crate::unbuilt::{COMPACT_FORM, SAMPLE_FORM};
+use answers::{Answer, refuse};
 use cli_words::{Order, WordsErr, width_law};
+use prune_orders::prune_order;
 use refusals::Refusal;
 use rel_path::Text;
+use run_orders::run_order;
 use spawn_dev::Spawner;
 use std::alloc::Global;
 use store_dev::StoreDevice;
@@ -54,12 +59,15 @@ fn refuse_words<K: Sink>(alloc: Global, fault: WordsErr, out: &mut K) -> Answer
 ///
 /// An order to run makes a plan of the repository, opens the store, looks tasks up in it and runs
 /// the others, and prints the page as it comes; `--dry` says what a run would do. The first word
-/// `help`, or none, prints how the program is called. What is not built is refused by its number
-/// before anything is read: orders to prune, to sample and to make the store smaller, and runs with
-/// `--shared` or a `--cache` other than `local:rw`.
+/// `help`, or none, prints how the program is called. An order to prune writes the files that given
+/// packages need below `out`. What is not built is refused by its number before anything is read:
+/// orders to sample and to make the store smaller, and runs with `--shared` or a `--cache` other
+/// than `local:rw`.
 ///
 /// A refusal's line is all that is printed; nothing was started then and nothing changed, but that
-/// a store of at most nine bytes may be made anew. What is tried comes in the order of `IsRefused`.
+/// an order to prune which is refused for a file that is too large leaves those in front of it.
+/// What is tried comes in the order of `IsRefused`.
+///
 /// After a fault of the tree, the store or of starting commands its text is tried once. After want
 /// of memory nothing more is printed.
 ///
@@ -95,10 +103,9 @@ pub fn turbo<W: Spawner, S: StoreDevice, K: Sink>(
     ensures only { W.tells → S.tells → HasNoOther words.now env.now (W.state world.old).files
         (S.content store) result.0 }
     ensures unstarted { IfRefused result.0 (λ _. W.runs world.new ≡ W.runs world.old) }
-    ensures untouched { IfRefused result.0 (λ _.
-        (W.state world.new).files ≡ (W.state world.old).files) }
-    ensures same { S.tells → 9 < length (S.content store)
-        → IfRefused result.0 (λ _. S.content result.1 ≡ S.content store) }
+    ensures untouched { W.tells → IfRefused result.0 (LeavesAsRefused (order_of words.now)
+        (W.state world.old).files (W.state world.new).files) }
+    ensures same { S.tells → IfRefused result.0 (λ _. S.content result.1 ≡ S.content store) }
     ensures line { K.tells → IfRefused result.0 (λ reason.
         K.written out.new ≡ K.written out.old ++ line_of (refusal_text reason)) }
 
@@ -108,6 +115,11 @@ pub fn turbo<W: Spawner, S: StoreDevice, K: Sink>(
         (moment_of (W.state world.old) (W.runs world.old) (S.content store) (K.written out.old))
         (moment_of (W.state world.new) (W.runs world.new) (S.content result.1)
         (K.written out.new))) }
+
+    // What no device has a say in.
+    ensures alone { AnsweredAlone (order_of words.now) K.tells
+        (K.written out.old) (K.written out.new) result.0 }
+    ensures kept { KeepsStore (order_of words.now) store result.1 }
 
     // Whatever it answers.
     ensures idle { IsIdle (W.runs world.new) }
@@ -137,15 +149,9 @@ pub fn turbo<W: Spawner, S: StoreDevice, K: Sink>(
     match Order::read(alloc, words) {
         Ok(Order::Run(order)) => run_order(alloc, &order, env, world, store, out),
         Ok(Order::Help) => (help(alloc, out), store),
-        Ok(
-            Order::Prune {
-                targets: _,
-                docker: _,
-            },
-        ) => (
-            refuse(alloc, Refusal::NotBuilt { form: PRUNE_FORM }, out),
-            store,
-        ),
+        Ok(Order::Prune { targets, docker }) => {
+            (prune_order(alloc, &targets, docker, world, out), store)
+        }
         Ok(Order::Sample { size: _ }) => (
             refuse(alloc, Refusal::NotBuilt { form: SAMPLE_FORM }, out),
             store,

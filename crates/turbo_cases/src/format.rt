@@ -80,6 +80,8 @@ pub struct Step {
     /// Whether it goes over the case's own files and an empty store, as the first step does.
     #[serde(default)]
     pub fresh: bool,
+    /// A folder of which the files become the repository, from this step on.
+    pub enter: Option<String>,
     /// Changes to the files before the call.
     #[serde(default)]
     pub write: Contents,

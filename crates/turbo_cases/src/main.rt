@@ -23,7 +23,7 @@ use std::{env, fs};
 use tally::Tally;
 
 /// The groups, each in a file of its name.
-const GROUPS: [&str; 15] = [
+const GROUPS: [&str; 17] = [
     "one_package",
     "monorepo",
     "graphs",
@@ -36,6 +36,8 @@ const GROUPS: [&str; 15] = [
     "inputs",
     "root_tasks",
     "environment",
+    "pruning",
+    "sample",
     "refusals",
     "sizes",
     "limits",

@@ -33,6 +33,18 @@ fn without(alloc: Global, files: &Files, path: &RelPath) -> Result<Files> {
     Ok(others)
 }
 
+// The path behind the folder, if it lies below that.
+fn path_behind(alloc: Global, path: &RelPath, folder: &str) -> Result<Option<RelPath>> {
+    let text = path.text(alloc)?;
+    match text.as_str().strip_prefix(folder) {
+        Some(rest) => match rest.strip_prefix("/") {
+            Some(rest) => Ok(Some(RelPath::read(alloc, rest)?)),
+            None => Ok(None),
+        },
+        None => Ok(None),
+    }
+}
+
 /// The text that the bytes are.
 pub fn read_text(alloc: Global, bytes: &[u8]) -> Result<String> {
     let text = str::from_utf8(bytes).ok().context("no text")?;
@@ -71,6 +83,18 @@ impl Scene {
                 self.files.push((path, content_of(alloc, content)?))?;
             }
         }
+        Ok(())
+    }
+
+    /// Keeps the files below the folder alone, by their paths in it.
+    pub fn enter(&mut self, alloc: Global, folder: &str) -> Result<()> {
+        let mut files = Files::new(alloc);
+        for file in self.files.as_slice() {
+            if let Some(path) = path_behind(alloc, &file.0, folder)? {
+                files.push((path, file.1.copy()?))?;
+            }
+        }
+        self.files = files;
         Ok(())
     }
 

@@ -56,6 +56,9 @@ fn prepare(
     if step.fresh {
         *scene = scene_of(alloc, group, case)?;
     }
+    if let Some(folder) = &step.enter {
+        scene.enter(alloc, folder.as_str())?;
+    }
     if let Some(store) = &step.store {
         scene.set_store(alloc, store.as_str())?;
     }

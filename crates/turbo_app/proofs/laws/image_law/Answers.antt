@@ -2,7 +2,8 @@
 use Rattle.std.proofs.Common.{List, [], subst, map}
 use Rattle.cache_api.specs.Pairs.{Pair}
 use Rattle.run_laws.specs.Pairs.{IsHistory}
-use Rattle.turbo_app.proofs.Chain.{pairs_of, pairs_are, short_stands, history, good_images}
+use Rattle.run_orders.specs.Facts.{short_stands}
+use Rattle.turbo_app.proofs.Chain.{pairs_of, pairs_are, history, good_images}
 use Rattle.turbo_app.proofs.laws.image_law.Goals as goal
 
 pub returns : goal.returns

@@ -1,9 +1,12 @@
 -- What words ask for, by their order.
-use Rattle.std.proofs.Common.{◌∙◌, ap, subst, Ok}
+use Rattle.std.proofs.Common.{◌∙◌, ap, sym, subst, Ok}
+use Rattle.spawn_dev.specs.Spawn.{IsIdle}
 use Rattle.cli_words.specs.declared.order.Order.TheVariants.{Run}
 use Rattle.turbo_app.specs.Asking.{IsRefusedOrder}
-use Rattle.turbo_app.proofs.Causes.{no_fault}
-use Rattle.turbo_app.proofs.Left.{alone_adds, alone_left}
+use Rattle.answers.specs.Answers.{HasCauseIn, counts_of}
+use Rattle.answers.specs.Facts.{no_fault}
+use Rattle.run_orders.specs.Facts.{alone_adds}
+use Rattle.turbo_app.proofs.Alone.{alone_left}
 use Rattle.turbo_app.proofs.top.turbo.Goals as goal
 
 pub run_order-requires-clause-wide : goal.run_order-requires-clause-wide
@@ -18,17 +21,26 @@ returns-in-Ok-Help-clause-cause g c = c.help.ensures.cause (g.W.Tree.state c.arg
 pub returns-in-Ok-Help-clause-quiet : goal.returns-in-Ok-Help-clause-quiet
 returns-in-Ok-Help-clause-quiet g c = λ quiet. no_fault _ _ c.help.result (c.help.ensures.cause (g.W.Tree.state c.args.world.now).faults (g.S.StoreDevice.store_faults c.args.store) (g.W.Spawner.runs c.args.world.now).faults) quiet
 
+pub returns-in-Ok-Prune-clause-idle : goal.returns-in-Ok-Prune-clause-idle
+returns-in-Ok-Prune-clause-idle g c = subst (λ r. IsIdle r) (sym (g.met.W.Spawner.runs_by_rest _ _ c.prune_order.ensures.keeps.rest)) c.requires
+
 pub returns-in-Ok-Prune-clause-cause : goal.returns-in-Ok-Prune-clause-cause
-returns-in-Ok-Prune-clause-cause g c = c.refuse.ensures.cause (g.W.Tree.state c.args.world.now).faults (g.S.StoreDevice.store_faults c.args.store) (g.W.Spawner.runs c.args.world.now).faults
+returns-in-Ok-Prune-clause-cause g c =
+    let store = g.S.StoreDevice.store_faults c.args.store in
+    let start = (g.W.Spawner.runs c.args.world.now).faults in
+    let before = counts_of (g.W.Tree.state c.args.world.now).faults store start (g.K.Sink.faults c.args.out.now) in
+    subst (λ n. HasCauseIn before (counts_of (g.W.Tree.state c.prune_order.new.tree).faults store n (g.K.Sink.faults c.prune_order.new.out)) c.prune_order.result)
+    (sym (ap (λ r. r.faults) (g.met.W.Spawner.runs_by_rest _ _ c.prune_order.ensures.keeps.rest)))
+    (c.prune_order.ensures.cause store start)
 
 pub returns-in-Ok-Prune-clause-quiet : goal.returns-in-Ok-Prune-clause-quiet
-returns-in-Ok-Prune-clause-quiet g c = λ quiet. no_fault _ _ c.refuse.result (c.refuse.ensures.cause (g.W.Tree.state c.args.world.now).faults (g.S.StoreDevice.store_faults c.args.store) (g.W.Spawner.runs c.args.world.now).faults) quiet
+returns-in-Ok-Prune-clause-quiet g c = λ quiet. no_fault _ _ c.prune_order.result (returns-in-Ok-Prune-clause-cause g c) quiet
 
 pub returns-in-Ok-Sample-clause-cause : goal.returns-in-Ok-Sample-clause-cause
-returns-in-Ok-Sample-clause-cause g c = c.refuse-in-Ok-Sample.ensures.cause (g.W.Tree.state c.args.world.now).faults (g.S.StoreDevice.store_faults c.args.store) (g.W.Spawner.runs c.args.world.now).faults
+returns-in-Ok-Sample-clause-cause g c = c.refuse.ensures.cause (g.W.Tree.state c.args.world.now).faults (g.S.StoreDevice.store_faults c.args.store) (g.W.Spawner.runs c.args.world.now).faults
 
 pub returns-in-Ok-Sample-clause-quiet : goal.returns-in-Ok-Sample-clause-quiet
-returns-in-Ok-Sample-clause-quiet g c = λ quiet. no_fault _ _ c.refuse-in-Ok-Sample.result (c.refuse-in-Ok-Sample.ensures.cause (g.W.Tree.state c.args.world.now).faults (g.S.StoreDevice.store_faults c.args.store) (g.W.Spawner.runs c.args.world.now).faults) quiet
+returns-in-Ok-Sample-clause-quiet g c = λ quiet. no_fault _ _ c.refuse.result (c.refuse.ensures.cause (g.W.Tree.state c.args.world.now).faults (g.S.StoreDevice.store_faults c.args.store) (g.W.Spawner.runs c.args.world.now).faults) quiet
 
 pub returns-in-Ok-Compact-clause-cause : goal.returns-in-Ok-Compact-clause-cause
 returns-in-Ok-Compact-clause-cause g c = c.refuse-in-Ok-Compact.ensures.cause (g.W.Tree.state c.args.world.now).faults (g.S.StoreDevice.store_faults c.args.store) (g.W.Spawner.runs c.args.world.now).faults
@@ -36,11 +48,11 @@ returns-in-Ok-Compact-clause-cause g c = c.refuse-in-Ok-Compact.ensures.cause (g
 pub returns-in-Ok-Compact-clause-quiet : goal.returns-in-Ok-Compact-clause-quiet
 returns-in-Ok-Compact-clause-quiet g c = λ quiet. no_fault _ _ c.refuse-in-Ok-Compact.result (c.refuse-in-Ok-Compact.ensures.cause (g.W.Tree.state c.args.world.now).faults (g.S.StoreDevice.store_faults c.args.store) (g.W.Spawner.runs c.args.world.now).faults) quiet
 
-pub returns-clause-cause : goal.returns-clause-cause
-returns-clause-cause g c = c.refuse_words.ensures.cause (g.W.Tree.state c.args.world.now).faults (g.S.StoreDevice.store_faults c.args.store) (g.W.Spawner.runs c.args.world.now).faults
+pub returns-in-Err-clause-cause : goal.returns-in-Err-clause-cause
+returns-in-Err-clause-cause g c = c.refuse_words.ensures.cause (g.W.Tree.state c.args.world.now).faults (g.S.StoreDevice.store_faults c.args.store) (g.W.Spawner.runs c.args.world.now).faults
 
-pub returns-clause-quiet : goal.returns-clause-quiet
-returns-clause-quiet g c = λ quiet. no_fault _ _ c.refuse_words.result (c.refuse_words.ensures.cause (g.W.Tree.state c.args.world.now).faults (g.S.StoreDevice.store_faults c.args.store) (g.W.Spawner.runs c.args.world.now).faults) quiet
+pub returns-in-Err-clause-quiet : goal.returns-in-Err-clause-quiet
+returns-in-Err-clause-quiet g c = λ quiet. no_fault _ _ c.refuse_words.result (c.refuse_words.ensures.cause (g.W.Tree.state c.args.world.now).faults (g.S.StoreDevice.store_faults c.args.store) (g.W.Spawner.runs c.args.world.now).faults) quiet
 
 pub returns-in-Ok-Run-clause-only : goal.returns-in-Ok-Run-clause-only
 returns-in-Ok-Run-clause-only g c told store reason refused =
@@ -73,8 +85,8 @@ returns-in-Ok-Compact-clause-sound g c store = alone_adds g.S.StoreDevice.moment
 pub returns-in-Ok-Compact-clause-left : goal.returns-in-Ok-Compact-clause-left
 returns-in-Ok-Compact-clause-left g c told store trusted = alone_left g.S.StoreDevice.moment g.S.StoreDevice.images_since g.S.StoreDevice.images c.args.store (g.met.S.StoreDevice.only_now c.args.store) _ _ _ _ _
 
-pub returns-clause-sound : goal.returns-clause-sound
-returns-clause-sound g c store = alone_adds g.S.StoreDevice.moment g.S.StoreDevice.images_since g.S.StoreDevice.images c.args.store (g.met.S.StoreDevice.only_now c.args.store)
+pub returns-in-Err-clause-sound : goal.returns-in-Err-clause-sound
+returns-in-Err-clause-sound g c store = alone_adds g.S.StoreDevice.moment g.S.StoreDevice.images_since g.S.StoreDevice.images c.args.store (g.met.S.StoreDevice.only_now c.args.store)
 
-pub returns-clause-left : goal.returns-clause-left
-returns-clause-left g c told store trusted = alone_left g.S.StoreDevice.moment g.S.StoreDevice.images_since g.S.StoreDevice.images c.args.store (g.met.S.StoreDevice.only_now c.args.store) _ _ _ _ _
+pub returns-in-Err-clause-left : goal.returns-in-Err-clause-left
+returns-in-Err-clause-left g c told store trusted = alone_left g.S.StoreDevice.moment g.S.StoreDevice.images_since g.S.StoreDevice.images c.args.store (g.met.S.StoreDevice.only_now c.args.store) _ _ _ _ _

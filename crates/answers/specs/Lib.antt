@@ -1,0 +1,4 @@
+pub mod Answers
+pub mod Moments
+pub mod Stops
+pub mod Facts

@@ -1,0 +1,10 @@
+mod Lists
+mod Gains
+mod Marking
+mod Owners
+mod Indexing
+mod Texts
+mod Needing
+mod Reaching
+mod Staying
+mod Naming

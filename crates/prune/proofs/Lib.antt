@@ -1,0 +1,7 @@
+mod Bools
+mod Targets
+mod Copied
+mod Turns
+mod Planned
+mod Written
+mod Printing

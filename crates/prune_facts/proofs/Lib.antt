@@ -1,0 +1,13 @@
+pub mod Lists
+pub mod Following
+pub mod Picking
+pub mod Pairing
+pub mod Laying
+pub mod Closing
+pub mod Strips
+pub mod Near
+pub mod Sorted
+pub mod Defining
+pub mod Remaining
+pub mod Cutting
+pub mod Spaces

@@ -1,0 +1,15 @@
+mod Owners
+mod Defs
+mod Needs
+mod Homes
+mod Staying
+mod Ignoring
+mod Inputs
+mod Leading
+mod Graphs
+mod Running
+mod Parts
+mod Reading
+mod Law
+mod Whole
+mod Outcomes

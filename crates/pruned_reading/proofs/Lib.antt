@@ -1,0 +1,15 @@
+mod Lists
+mod Ascending
+mod Entries
+mod Folders
+mod Found
+mod Remaining
+mod Read
+mod Homes
+mod Staying
+mod Locks
+mod Walking
+mod RootFiles
+mod Packages
+mod Configs
+mod Whole

@@ -1,0 +1,5 @@
+mod Finished
+mod Only
+mod NotBuilt
+mod Left
+mod Ready
