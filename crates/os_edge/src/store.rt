@@ -50,6 +50,31 @@ impl<'p, R: Files<File = File> + Eprint + AllocGlobal> OsStore<'p, R> {
             faults: 0,
         }
     }
+
+    /// The same, opened and locked: it waits for the lock while another process holds it. The lock
+    /// is given back as the device is dropped.
+    pub fn locked(rt: R, path: &'p str) -> Result<OsStore<'p, R>, StoreErr>
+        ensures fresh { IfOk result
+            (λ store. ⟦<OsStore<'p, R> as StoreDevice>⟧.store_faults store ≡ 0) }
+        ensures only { OnlyFails result }
+    {
+        match told_of(&rt, path, "locked", lock(&rt, path)) {
+            Ok(file) => Ok(OsStore {
+                rt,
+                path,
+                backing: Some(Backing::File(file)),
+                faults: 0,
+            }),
+            Err(_) => Err(StoreErr::Failed),
+        }
+    }
+
+    /// How many of its calls have failed.
+    pub fn faults(&self) -> u64
+        ensures { result ≡ ⟦<OsStore<'p, R> as StoreDevice>⟧.store_faults self.now }
+    {
+        self.faults
+    }
 }
 
 // The store, opened once. After an opening that failed it is opened anew.
@@ -118,6 +143,12 @@ fn open<R: Files<File = File>>(rt: &R, path: &str) -> io::Result<File> {
     }
     sync_folder(rt, folder)?;
     sync_folder(rt, folder_of(folder))?;
+    Ok(file)
+}
+
+fn lock<R: Files<File = File>>(rt: &R, path: &str) -> io::Result<File> {
+    let file = open(rt, path)?;
+    file.lock()?;
     Ok(file)
 }
 
