@@ -54,6 +54,8 @@ impl<'p, R: Files<File = File> + Eprint + AllocGlobal> OsStore<'p, R> {
     /// The same, opened and locked: it waits for the lock while another process holds it. The lock
     /// is given back as the device is dropped.
     pub fn locked(rt: R, path: &'p str) -> Result<OsStore<'p, R>, StoreErr>
+    where
+        R: Drop,
         ensures fresh { IfOk result
             (λ store. ⟦<OsStore<'p, R> as StoreDevice>⟧.store_faults store ≡ 0) }
         ensures only { OnlyFails result }
