@@ -1,5 +1,5 @@
 //! Several runs over one file of pairs, as a machine and its laws. Each run sees the pairs that the
-//! file had as the run entered, and its own. What it adds goes behind whatever the file has by then.
+//! file had as the run entered, and its own. What it adds goes behind whatever the file has then.
 //!
 //! The laws hold in every history. The file has its first pairs, and then the additions of the
 //! runs, interleaved, each run's in its order. A look-up answers from its own run's view, and what
