@@ -1,0 +1,5 @@
+mod Folded
+mod Numbered
+mod Seen
+pub mod Origins
+mod Examples
