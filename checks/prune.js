@@ -5,8 +5,9 @@
 //
 // For each package of each repository its manifests and its lockfile are pruned in a copy, and the lockfile that was cut is
 // read by the resolver of the npm that is installed here, as the whole one is. What each of the packages that stay, the root,
-// and whatever they reach depends on has to be found in the same place in both. Prints a line for each repository, and ends
-// with 1 where one differs or nothing was compared.
+// and whatever they reach depends on has to be found in the same place in both. A cut lockfile with a link to a folder that is
+// no package of the workspace, which pruning leaves out, is counted apart. Prints a line for each repository, and ends with 1
+// where one differs or nothing was compared.
 'use strict'
 
 const { execFileSync, spawnSync } = require('child_process')
@@ -53,6 +54,12 @@ function found(root, packages) {
   return all
 }
 
+// The links of a lockfile whose folders it does not have.
+function loose(lockfile) {
+  const packages = JSON.parse(fs.readFileSync(lockfile, 'utf8')).packages
+  return Object.keys(packages).filter((it) => packages[it].link && !(packages[it].resolved in packages))
+}
+
 // How often one finds something else than the other does.
 function differences(whole, cut) {
   const names = new Set([...whole.keys(), ...cut.keys()])
@@ -64,6 +71,11 @@ async function tried(program, repository, folder, name, tally) {
   const ran = spawnSync(program, ['prune', name], { cwd: folder, encoding: 'utf8' })
   if (ran.status !== 0) {
     tally.refused.push(`${name}: ${ran.stdout.trim()}`)
+    return
+  }
+  const links = loose(path.join(folder, 'out', 'package-lock.json'))
+  if (links.length > 0) {
+    tally.apart.push(`${name}: ${links[0]} leads to a folder that is no package`)
     return
   }
   const kept = ran.stdout.split('\n').filter((it) => it.startsWith(' - Added ')).map((it) => it.slice(' - Added '.length))
@@ -78,7 +90,7 @@ async function tried(program, repository, folder, name, tally) {
 }
 
 async function repositoryTried(program, repository) {
-  const tally = { cuts: 0, found: 0, refused: [], differ: [] }
+  const tally = { cuts: 0, found: 0, apart: [], refused: [], differ: [] }
   const names = [...(await load(repository)).workspaces.keys()]
   for (const name of names) {
     const folder = fs.mkdtempSync(path.join(os.tmpdir(), 'prune-'))
@@ -88,10 +100,11 @@ async function repositoryTried(program, repository) {
       fs.rmSync(folder, { recursive: true })
     }
   }
-  const { cuts, refused, differ } = tally
-  console.log(`${repository}: ${cuts} cut, ${refused.length} refused, ${tally.found} found, ${differ.length} differ`)
-  for (const it of [...refused.slice(0, SHOWN), ...differ.slice(0, SHOWN)]) console.log(`  ${it}`)
-  return cuts > 0 && differ.length === 0
+  const { cuts, apart, refused, differ } = tally
+  const counts = `${cuts} cut, ${apart.length} apart, ${refused.length} refused`
+  console.log(`${repository}: ${counts}, ${tally.found} found, ${differ.length} differ`)
+  for (const shown of [apart, refused, differ]) for (const it of shown.slice(0, SHOWN)) console.log(`  ${it}`)
+  return cuts + apart.length > 0 && differ.length === 0
 }
 
 async function main([program, ...repositories]) {
