@@ -133,8 +133,9 @@ fn at_any_path(rt: HostRuntime) -> Result<(), Fail> {
     let alloc = rt.alloc();
     let folder = enter(&rt, "anywhere")?;
     write_twice(alloc, &mut OsStore::at(&rt, "caches/all/store.turb"))?;
-    let mut second = OsStore::locked(&rt, "caches/all/store.turb")?;
+    let mut second = OsStore::locked(&rt, "caches/all/store.turb", 7)?;
     assert!(rt; is_read(&mut second, 4, *b"EFGH")?);
+    assert_eq!(rt; second.faults(), 7);
     assert!(rt; fails(alloc, &mut OsStore::at(&rt, "")));
     leave(&rt, folder)
 }

@@ -51,13 +51,13 @@ impl<'p, R: Files<File = File> + Eprint + AllocGlobal> OsStore<'p, R> {
         }
     }
 
-    /// The same, opened and locked: it waits for the lock while another process holds it. The lock
-    /// is given back as the device is dropped.
-    pub fn locked(rt: R, path: &'p str) -> Result<OsStore<'p, R>, StoreErr>
+    /// The same, opened and locked, and with so many faults counted: it waits for the lock while
+    /// another process holds it. The lock is given back as the device is dropped.
+    pub fn locked(rt: R, path: &'p str, faults: u64) -> Result<OsStore<'p, R>, StoreErr>
     where
         R: Drop,
-        ensures fresh { IfOk result
-            (λ store. ⟦<OsStore<'p, R> as StoreDevice>⟧.store_faults store ≡ 0) }
+        ensures counted { IfOk result
+            (λ store. ⟦<OsStore<'p, R> as StoreDevice>⟧.store_faults store ≡ faults) }
         ensures only { OnlyFails result }
     {
         match told_of(&rt, path, "locked", lock(&rt, path)) {
@@ -65,13 +65,13 @@ impl<'p, R: Files<File = File> + Eprint + AllocGlobal> OsStore<'p, R> {
                 rt,
                 path,
                 backing: Some(Backing::File(file)),
-                faults: 0,
+                faults,
             }),
             Err(_) => Err(StoreErr::Failed),
         }
     }
 
-    /// How many of its calls have failed.
+    /// How many faults it has counted.
     pub fn faults(&self) -> u64
         ensures { result ≡ ⟦<OsStore<'p, R> as StoreDevice>⟧.store_faults self.now }
     {
