@@ -1,9 +1,10 @@
--- A chain has good pairs alone.
+-- What holds of each pair holds of each that is chosen, and of each of a chain.
 use Rattle.std.proofs.Common.{◌≡◌, inl, inr, ℕ, ◌-◌, Bool, true, false, cond, List, [], ◌∷◌, ◌++◌, length, drop, Option, Some, None, sym, subst}
 use Rattle.std.specs.Prelude.{All, filter}
-use Rattle.std.proofs.lemmas.List.Elements.{All-nil, All-cons, All-head, All-tail, All-append, All-filter, All-drop}
+use Rattle.std.proofs.lemmas.List.Elements.{All-nil, All-cons, All-head, All-tail, All-append, All-filter, All-drop, filter_passes}
 use Rattle.cache_api.specs.Pairs.{Pair}
 use Rattle.compact.specs.Chosen.{is_useful, has_key, lasts, last_of, chosen}
+use Rattle.compact.specs.Picks.{AreUseful}
 use Rattle.compact.specs.Chains.{AddsGood, IsCompacted, IsChain, ChainLaw}
 
 module _ (Good : Pair → Type 0) where
@@ -12,12 +13,12 @@ module _ (Good : Pair → Type 0) where
   lasts_by true p ps good all = all
   lasts_by false p ps good all = All-cons Good p ps good all
 
-  all_lasts : (ps : List Pair) → All Good ps → All Good (lasts ps)
+  pub all_lasts : (ps : List Pair) → All Good ps → All Good (lasts ps)
   all_lasts [] all = all
   all_lasts (p ∷ ps) all =
       lasts_by (has_key p.0 ps) p (lasts ps) (All-head Good p ps all) (all_lasts ps (All-tail Good p ps all))
 
-  all_last : (keep : Option ℕ) (ps : List Pair) → All Good ps → All Good (last_of keep ps)
+  pub all_last : (keep : Option ℕ) (ps : List Pair) → All Good ps → All Good (last_of keep ps)
   all_last None ps all = all
   all_last (Some n) ps all = All-drop Good (length ps - n) ps all
 
@@ -39,3 +40,11 @@ module _ (Good : Pair → Type 0) where
 
   pub chain_law : ChainLaw Good
   chain_law chain is = chain_from [] chain (All-nil Good) is
+
+-- what is chosen has artifacts for values
+pub useful_chosen : (pairs : List Pair) (keep : Option ℕ) → AreUseful (chosen pairs keep)
+unfolding chosen
+useful_chosen pairs keep =
+    let Useful : Pair → Type 0 = λ p. is_useful p ≡ true in
+    all_last Useful keep (lasts (filter is_useful pairs))
+    (all_lasts Useful (filter is_useful pairs) (filter_passes is_useful pairs))

@@ -13,13 +13,7 @@ use Rattle.record_log.specs.Texts.{ends_append}
 use Rattle.pair_frames.specs.Puts.{put_frames, put_size, fit, added, kept}
 use Rattle.pair_frames.specs.Laws.{AreTexts}
 use Rattle.pair_frames.proofs.Sizes.{size_ample, sum_cons}
-use Rattle.compact.specs.Room.{free_behind, Lack, lack, lacking}
-
--- each of them fits in what those before it leave
-abbrev pub AllFit : ℕ → List Entry → List Pair → Type 0
-AllFit room fs [] = Unit {0}
-AllFit room fs (pair ∷ pairs) =
-    (put_size fs pair ≤ room) × AllFit (room - put_size fs pair) (fs ++ put_frames fs pair) pairs
+use Rattle.compact.specs.Room.{free_behind, lack, lacking, AllFit}
 
 -- for none of them there is no room
 abbrev pub all_true : List Pair → List Bool

@@ -3,6 +3,8 @@ use Rattle.std.specs.Prelude.{◌≡◌, ◌⊎◌, ◌<◌, ◌≤◌, ◌^◌,
 use Rattle.rel_path.specs.Causes.{Rose}
 use Rattle.cache_api.specs.declared.error.CacheErr.{CacheErr}
 use Rattle.cache_api.specs.declared.error.CacheErr.TheVariants as cache
+use Rattle.record_log.specs.declared.error.LogErr.{LogErr}
+use Rattle.record_log.specs.declared.error.LogErr.TheVariants as log
 use Rattle.record_log.specs.Frames.{reading, IsSound}
 use Rattle.artifact_store.specs.declared.error.OpenErr.{OpenErr}
 use Rattle.artifact_store.specs.declared.error.OpenErr.TheVariants as opening
@@ -80,6 +82,12 @@ is_fault _ = false
 abbrev pub of_cache : CacheErr → CompactErr
 of_cache cache.Failed = Failed
 of_cache _ = OutOfMemory
+
+-- a log's error behind its opening
+abbrev pub of_log : LogErr → CompactErr
+of_log (log.Full need free) = NoRoom need free
+of_log log.Failed = Failed
+of_log _ = OutOfMemory
 
 abbrev pub as_from : OpenErr → CompactErr
 as_from opening.NotAStore = From opening.NotAStore

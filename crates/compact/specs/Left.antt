@@ -1,5 +1,5 @@
 -- What opening and compacting stores leave of them.
-use Rattle.std.specs.Prelude.{◌≡◌, ◌⊎◌, ◌<◌, ◌≤◌, ℕ, suc, List, length, Option, Some, Result, Ok, Err}
+use Rattle.std.specs.Prelude.{◌≡◌, ◌⊎◌, ◌<◌, ◌≤◌, ◌+◌, ℕ, List, length, Option, Some, Result, Ok, Err}
 use Rattle.store_dev.specs.Device.{Only, LeavesOnly}
 use Rattle.store_dev.specs.declared.device.StoreDevice.{Ghosts}
 use Rattle.cache_api.specs.Pairs.{Pair}
@@ -17,10 +17,14 @@ use Rattle.compact.specs.Current.{generation_in, pairs_held}
 abbrev pub IsStoreOf : ℕ → List Pair → List ℕ → Type 0
 IsStoreOf generation pairs bytes = told_as generation bytes ≡ Some pairs
 
+-- they have the frames that those have
+abbrev pub ReadsAs : List ℕ → List ℕ → Type 0
+ReadsAs bytes c = reading c ≡ reading bytes
+
 -- they are a store of that generation, or one that tells none
-pub record IsUnsealed (generation : ℕ) (bytes : List ℕ) : Type 0 where
+pub record IsUnsealed (was : ℕ) (bytes : List ℕ) : Type 0 where
   pub sound : IsSound bytes
-  pub generation : (generation_in bytes ≡ generation) ⊎ (generation_in bytes ≡ 0)
+  pub generation : (generation_in bytes ≡ was) ⊎ (generation_in bytes ≡ 0)
 
 -- those of a spare store while it is renewed: it has the generation that it had or none, or the new one and these pairs
 abbrev pub IsRenewing : ℕ → ℕ → List Pair → List ℕ → Type 0
@@ -31,7 +35,7 @@ abbrev pub chosen_in : List ℕ → Option ℕ → List Pair
 chosen_in bytes keep = chosen (pairs_held bytes) keep
 
 abbrev pub next_generation : List ℕ → ℕ
-next_generation bytes = suc (generation_in bytes)
+next_generation bytes = generation_in bytes + 1
 
 -- ---- devices
 
@@ -60,9 +64,12 @@ pub record IsReread {S : Type 0} (G : Ghosts S) (old new : S) : Type 0 where
 -- ---- the answer of compaction
 
 -- how many pairs were kept, of how many
-pub record IsCountOf (bytes : List ℕ) (keep : Option ℕ) (counts : Kept) : Type 0 where
-  pub kept : counts.kept ≡ length (chosen_in bytes keep)
-  pub before : counts.before ≡ length (pairs_held bytes)
+pub record IsCountIn (pairs : List Pair) (keep : Option ℕ) (counts : Kept) : Type 0 where
+  pub kept : counts.kept ≡ length (chosen pairs keep)
+  pub before : counts.before ≡ length pairs
+
+abbrev pub IsCountOf : List ℕ → Option ℕ → Kept → Type 0
+IsCountOf bytes keep counts = IsCountIn (pairs_held bytes) keep counts
 
 -- the old pairs or the new ones
 abbrev pub IsEither : List Pair → List Pair → Option (List Pair) → Type 0

@@ -4,3 +4,5 @@ pub mod Current
 pub mod Room
 pub mod Answers
 pub mod Left
+pub mod Picks
+pub mod Sources

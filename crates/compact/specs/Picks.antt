@@ -18,6 +18,10 @@ pair_of pairs number = get_or pairs number ([], [])
 abbrev pub pairs_at : List Pair → List ℕ → List Pair
 pairs_at pairs numbers = map (pair_of pairs) numbers
 
+-- the value of each is an artifact
+abbrev pub AreUseful : List Pair → Type 0
+AreUseful pairs = All (λ pair. is_useful pair ≡ true) pairs
+
 -- those that were picked, the last first, in their order
 abbrev pub picked : List Pair → List ℕ → List Pair
 picked pairs numbers = reverse (pairs_at pairs numbers)

@@ -1,5 +1,5 @@
 -- The room that compaction needs.
-use Rattle.std.specs.Prelude.{ℕ, ◌-◌, if◌then◌else◌, nat_le, List, [], ◌∷◌, ◌++◌, Option, Some, None}
+use Rattle.std.specs.Prelude.{ℕ, ◌-◌, ◌≤◌, if◌then◌else◌, nat_le, List, [], ◌∷◌, ◌++◌, Option, Some, None}
 use Rattle.std.specs.Int.{w64, to_le_bytes}
 use Rattle.rel_path.specs.Limits.{store_limit}
 use Rattle.cache_api.specs.Memory.{capped}
@@ -13,7 +13,7 @@ use Rattle.pair_frames.specs.Puts.{put_frames, put_size}
 abbrev pub generation_frame : ℕ → Entry
 generation_frame generation = entry GENERATION (to_le_bytes w64 generation) []
 
--- how many bytes more a store with these frames may take
+-- the room of a store in which these frames stand: how many bytes more it may take
 abbrev pub free_behind : List Entry → ℕ
 free_behind fs = store_limit - ends fs
 
@@ -35,3 +35,9 @@ lacking generation fs (pair ∷ pairs) =
     if nat_le (put_size fs pair) (free_behind fs)
     then lacking generation (fs ++ put_frames fs pair) pairs
     else Some (lack (put_size fs pair) (free_behind fs))
+
+-- for each of these pairs there is room, one after another
+abbrev pub AllFit : ℕ → List Entry → List Pair → Type 0
+AllFit room fs [] = Unit {0}
+AllFit room fs (pair ∷ pairs) =
+    (put_size fs pair ≤ room) × AllFit (room - put_size fs pair) (fs ++ put_frames fs pair) pairs

@@ -1,33 +1,26 @@
 -- The store that is read, and the one that is written, over calls.
-use Rattle.std.specs.Prelude.{◌≡◌, ◌⊎◌, ◌<◌, ◌+◌, ◌++◌, ℕ, IsTrue, List, Result, Ok, Err, Some, Option}
+use Rattle.std.specs.Prelude.{◌≡◌, ◌⊎◌, ◌<◌, ◌+◌, ◌++◌, ℕ, Bool, IsTrue, List, [], Result, Ok, Err, Some, Option}
 use Rattle.rel_path.specs.Causes.{Counts}
 use Rattle.store_dev.specs.Device.{LeavesOnly}
 use Rattle.store_dev.specs.declared.device.StoreDevice.{Ghosts}
 use Rattle.cache_api.specs.Pairs.{Pair}
 use Rattle.record_log.specs.Kinds.{Entry}
+use Rattle.record_log.specs.Frames.{frames_of}
 use Rattle.record_log.specs.declared.error.Unopened.{Unopened}
 use Rattle.artifact_store.specs.declared.store.Store.{Store}
 use Rattle.artifact_store.specs.Store.{device_of, state_of, count_in}
 use Rattle.compact.specs.declared.error.CompactErr.{CompactErr}
-use Rattle.compact.specs.declared.error.CompactErr.TheVariants.{From, To, NoRoom, LastGeneration}
+use Rattle.compact.specs.declared.error.CompactErr.TheVariants.{From, To, NoRoom, LastGeneration, Failed, OutOfMemory}
 use Rattle.compact.specs.Answers.{IsStoreFault, is_fault}
 use Rattle.compact.specs.Room.{lacking}
 use Rattle.compact.specs.Current.{generation_in, pairs_held}
-use Rattle.compact.specs.Left.{IsStoreOf}
-
--- what calls leave of a store that they only read
-pub record ReadsOn {S : Type 0} {G : Ghosts S} (old new : Store S G) : Type 0 where
-  pub pairs : G.tells → (state_of new).pairs ≡ (state_of old).pairs
-  pub base : (state_of new).base ≡ (state_of old).base
-  pub count : count_in new ≡ count_in old
-  pub images : G.tells → LeavesOnly G.moment G.images_since (device_of old) (device_of new)
-      (IsStoreOf (state_of old).base (state_of old).pairs)
+use Rattle.compact.specs.Left.{IsStoreOf, ReadsAs}
 
 -- some store of that generation
 abbrev pub IsOfGeneration : ℕ → List ℕ → Type 0
 IsOfGeneration generation bytes = (pairs : List Pair) × IsStoreOf generation pairs bytes
 
--- and of one into which pairs are put
+-- what calls leave of a store into which they put pairs
 pub record PutsOn {S : Type 0} {G : Ghosts S} (old new : Store S G) : Type 0 where
   pub base : (state_of new).base ≡ (state_of old).base
   pub images : G.tells → LeavesOnly G.moment G.images_since (device_of old) (device_of new)
@@ -42,7 +35,7 @@ pub record IsSource {S : Type 0} {G : Ghosts S} (device : S) (store : Store S G)
   pub base : G.tells → (state_of store).base ≡ generation_in (G.content device)
   pub told : G.tells → generation ≡ generation_in (G.content device)
   pub images : G.tells → LeavesOnly G.moment G.images_since device (device_of store)
-      (IsStoreOf (generation_in (G.content device)) (pairs_held (G.content device)))
+      (ReadsAs (G.content device))
   pub faults : (state_of store).faults ≡ G.store_faults device
 
 -- the errors of its opening
@@ -61,7 +54,7 @@ raised e = Err e
 pub record IsNoSource {S : Type 0} (G : Ghosts S) (device : S) (unopened : Unopened S CompactErr)
     : Type 0 where
   pub images : G.tells → LeavesOnly G.moment G.images_since device unopened.store
-      (IsStoreOf (generation_in (G.content device)) (pairs_held (G.content device)))
+      (ReadsAs (G.content device))
   pub cause : Counts is_fault (G.store_faults device) (G.store_faults unopened.store)
       (raised unopened.fault)
 
@@ -72,8 +65,23 @@ abbrev pub handed : {P E : Type 0} → Result P (Unopened P E) → P
 handed (Ok device) = device
 handed (Err unopened) = unopened.store
 
-abbrev pub is_step_fault : {P : Type 0} → Unopened P CompactErr → _
-is_step_fault unopened = is_fault unopened.fault
+-- and what it answered
+abbrev pub answered : {P E : Type 0} → Result P (Unopened P E) → Result (Unit {0}) E
+answered (Ok device) = Ok tt
+answered (Err unopened) = Err unopened.fault
+
+-- the errors of putting pairs into it
+abbrev pub IsFillErr : CompactErr → Type 0
+IsFillErr (From fault) = ⊥
+IsFillErr (To fault) = ⊥
+IsFillErr LastGeneration = ⊥
+IsFillErr _ = Unit {0}
+
+-- the errors of clearing it
+abbrev pub IsClearErr : CompactErr → Type 0
+IsClearErr Failed = Unit {0}
+IsClearErr OutOfMemory = Unit {0}
+IsClearErr _ = ⊥
 
 -- the errors of a step that writes it
 abbrev pub IsToErr : CompactErr → Type 0
@@ -81,6 +89,12 @@ IsToErr (From fault) = ⊥
 IsToErr (To fault) = IsStoreFault fault
 IsToErr LastGeneration = ⊥
 IsToErr _ = Unit {0}
+
+-- of all three, and of the one before them
+abbrev pub IsRenewErr : CompactErr → Type 0
+IsRenewErr (From fault) = ⊥
+IsRenewErr (To fault) = IsStoreFault fault
+IsRenewErr _ = Unit {0}
 
 -- ---- putting pairs in order
 
@@ -91,3 +105,20 @@ IsPut (Ok _) fs pairs gs = (generation : ℕ) (rest : List Pair)
 IsPut (Err (NoRoom n f)) fs pairs gs = (generation : ℕ) (rest : List Pair)
     → lacking generation fs (pairs ++ rest) ≡ Some (record { need = n; free = f })
 IsPut (Err _) fs pairs gs = Unit {0}
+
+-- the same of the frames of an empty store, where the device is handed on
+abbrev pub IsStepPut : {P : Type 0} (G : Ghosts P) → Result P (Unopened P CompactErr) → List Pair → Type 0
+IsStepPut G (Ok to) pairs = IsPut {T = Unit {0}} (Ok tt) [] pairs (frames_of (G.content to))
+IsStepPut G (Err unopened) pairs = IsPut {T = Unit {0}} (Err unopened.fault) [] pairs []
+
+-- ---- what a step leaves
+
+-- the frames that there were, or a store of that generation with the pairs that there were
+abbrev pub IsSealing : List ℕ → ℕ → List ℕ → Type 0
+IsSealing bytes generation c = ReadsAs bytes c ⊎ IsStoreOf generation (pairs_held bytes) c
+
+-- where compaction is refused, a crash leaves what has P
+abbrev pub LeavesRefused : CompactErr → (List ℕ → Type 0) → (List ℕ → Type 0) → Type 0
+LeavesRefused (NoRoom need free) images P = (c : List ℕ) → images c → P c
+LeavesRefused LastGeneration images P = (c : List ℕ) → images c → P c
+LeavesRefused _ images P = Unit {0}

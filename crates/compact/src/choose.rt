@@ -2,10 +2,9 @@
 ghost use Rattle.std.specs.Prelude.{◌≡◌, ◌<◌, ◌≤◌, ◌+◌, [], length, All, IsTrue, IfOk, IfErr, OnOk};
 ghost use Rattle.rel_path.specs.Causes.{Counts};
 ghost use Rattle.cache_api.specs.Cache.{is_fault, IsFindErr};
-ghost use Rattle.artifact_store.specs.Store.{state_of, count_in};
+ghost use Rattle.artifact_store.specs.Store.{state_of, count_in, OnlyReadsStore};
 ghost use Rattle.compact.specs.Chosen.{chosen, has_key};
 ghost use Rattle.compact.specs.Picks.{ArePicks, pair_of, pairs_at, picked, picked_with};
-ghost use Rattle.compact.specs.Sources.{ReadsOn};
 
 use crate::picks::Picks;
 use artifact_store::Store;
@@ -25,8 +24,7 @@ pub(crate) fn choose<S: StoreDevice>(
         pairs_at (state_of from.old).pairs numbers.items ≡ chosen (state_of from.old).pairs keep) }
     ensures below { IfOk result (λ numbers.
         All (λ number. number < count_in from.old) numbers.items) }
-    ensures reads { ReadsOn from.old from.new }
-    ensures whole { OnOk result (IsTrue (state_of from.new).whole) }
+    ensures reads { OnlyReadsStore from.old from.new }
     ensures answers { IfErr result IsFindErr }
     ensures cause { Counts is_fault (state_of from.old).faults
         (state_of from.new).faults result }
@@ -52,8 +50,7 @@ fn pick_all<S: StoreDevice>(
         (picked (state_of from.old).pairs picks.new.numbers.items
         ≡ chosen (state_of from.old).pairs keep) }
     ensures picks { OnOk result (ArePicks from.old picks.new) }
-    ensures reads { ReadsOn from.old from.new }
-    ensures whole { OnOk result (IsTrue (state_of from.new).whole) }
+    ensures reads { OnlyReadsStore from.old from.new }
     ensures answers { IfErr result IsFindErr }
     ensures cause { Counts is_fault (state_of from.old).faults
         (state_of from.new).faults result }
@@ -86,8 +83,7 @@ fn pick<S: StoreDevice>(
     ensures picks { OnOk result (ArePicks from.old picks.new) }
     ensures few { OnOk result
         (length picks.new.numbers.items ≤ length picks.old.numbers.items + 1) }
-    ensures reads { ReadsOn from.old from.new }
-    ensures whole { OnOk result (IsTrue (state_of from.new).whole) }
+    ensures reads { OnlyReadsStore from.old from.new }
     ensures answers { IfErr result IsFindErr }
     ensures cause { Counts is_fault (state_of from.old).faults
         (state_of from.new).faults result }
@@ -114,8 +110,7 @@ fn is_picked<S: StoreDevice>(
     requires picks { ArePicks from.old picks.now }
     ensures value { S.tells → IfOk result (λ b.
         b ≡ has_key key.now (picked (state_of from.old).pairs picks.now.numbers.items)) }
-    ensures reads { ReadsOn from.old from.new }
-    ensures whole { OnOk result (IsTrue (state_of from.new).whole) }
+    ensures reads { OnlyReadsStore from.old from.new }
     ensures answers { IfErr result IsFindErr }
     ensures cause { Counts is_fault (state_of from.old).faults
         (state_of from.new).faults result }

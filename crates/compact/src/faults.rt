@@ -1,8 +1,8 @@
 // What is answered for a device that was not opened.
 ghost use Rattle.std.specs.Prelude.{◌≡◌};
-ghost use Rattle.record_log.specs.Answers.{IsOpenErr};
+ghost use Rattle.record_log.specs.Answers.{IsOpenErr, IsReadErr, IsAppendErr};
 ghost use Rattle.artifact_store.specs.Answers.{opens_as};
-ghost use Rattle.compact.specs.Answers.{as_first, as_spare, as_from, as_to};
+ghost use Rattle.compact.specs.Answers.{as_first, as_spare, as_from, as_to, of_log};
 
 use crate::{CompactErr, CurrentErr};
 use artifact_store::OpenErr;
@@ -58,5 +58,22 @@ pub(crate) fn to_err(fault: OpenErr) -> CompactErr
         OpenErr::NotAStore | OpenErr::Damaged { .. } => CompactErr::To(fault),
         OpenErr::Failed => CompactErr::Failed,
         OpenErr::OutOfMemory => CompactErr::OutOfMemory,
+    }
+}
+
+pub(crate) fn reset_err(fault: LogErr) -> CompactErr
+    requires { IsReadErr fault }
+    ensures { result ≡ of_log fault }
+{
+    append_err(fault)
+}
+
+pub(crate) fn append_err(fault: LogErr) -> CompactErr
+    ensures { result ≡ of_log fault }
+{
+    match fault {
+        LogErr::Full { need, free } => CompactErr::NoRoom { need, free },
+        LogErr::Failed => CompactErr::Failed,
+        _ => CompactErr::OutOfMemory,
     }
 }

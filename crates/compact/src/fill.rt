@@ -1,15 +1,15 @@
 // Putting pairs of one store into another.
-ghost use Rattle.std.specs.Prelude.{◌≡◌, ◌≤◌, ◌<◌, ◌∷◌, ◌++◌, [], take, length, map, sum_by, All, IsTrue, IfOk, IfErr, OnOk};
+ghost use Rattle.std.specs.Prelude.{false, ◌≡◌, ◌≤◌, ◌<◌, ◌∷◌, ◌++◌, [], take, length, map, sum_by, All, IsTrue, IfOk, IfErr, OnOk};
 ghost use Rattle.rel_path.specs.Causes.{Counts};
 ghost use Rattle.codes.specs.Codes.{Each};
 ghost use Rattle.cache_api.specs.Cache.{is_fault as is_find_fault, IsFindErr, ample};
 ghost use Rattle.cache_api.specs.Keys.{new_pairs};
 ghost use Rattle.pair_frames.specs.Laws.{AreTexts};
-ghost use Rattle.artifact_store.specs.Store.{frames_of, state_of, count_in};
+ghost use Rattle.artifact_store.specs.Store.{frames_of, state_of, count_in, OnlyReadsStore};
 ghost use Rattle.compact.specs.Answers.{CountsBoth, is_fault};
 ghost use Rattle.compact.specs.Picks.{AreUseful, pair_of, pairs_at, held_pair, held_pairs};
 ghost use Rattle.compact.specs.Room.{AllFit};
-ghost use Rattle.compact.specs.Sources.{ReadsOn, PutsOn, IsPut, IsFillErr};
+ghost use Rattle.compact.specs.Sources.{PutsOn, IsPut, IsFillErr};
 
 use crate::CompactErr;
 use crate::held::{Held, read_held};
@@ -44,10 +44,9 @@ pub(crate) fn fill<S: StoreDevice, P: StoreDevice>(
         ≡ (state_of to.old).pairs ++ pairs_at (state_of from.old).pairs numbers.now) }
     ensures room { S.tells → P.tells → IsPut result (frames_of to.old)
         (pairs_at (state_of from.old).pairs numbers.now) (frames_of to.new) }
-    ensures reads { ReadsOn from.old from.new }
+    ensures reads { OnlyReadsStore from.old from.new }
     ensures puts { PutsOn to.old to.new }
-    ensures from_whole { OnOk result (IsTrue (state_of from.new).whole) }
-    ensures to_whole { OnOk result (IsTrue (state_of to.new).whole) }
+    ensures whole { OnOk result (IsTrue (state_of to.new).whole) }
     ensures answers { IfErr result IsFillErr }
     ensures cause { CountsBoth is_fault (state_of from.old).faults (state_of from.new).faults
         (state_of to.old).faults (state_of to.new).faults result }
@@ -81,8 +80,7 @@ fn batch_of<S: StoreDevice>(
         ≡ take batch.taken (pairs_at (state_of from.old).pairs numbers.now)) }
     ensures texts { IfOk result (λ batch. Each AreTexts (held_pairs batch.held.items)) }
     ensures room { IfOk result (λ batch. sum_by ample (held_pairs batch.held.items) ≤ free) }
-    ensures reads { ReadsOn from.old from.new }
-    ensures whole { OnOk result (IsTrue (state_of from.new).whole) }
+    ensures reads { OnlyReadsStore from.old from.new }
     ensures answers { IfErr result IsFindErr }
     ensures cause { Counts is_find_fault (state_of from.old).faults
         (state_of from.new).faults result }
@@ -120,10 +118,9 @@ fn put_one<S: StoreDevice, P: StoreDevice>(
         ≡ (state_of to.old).pairs ++ pair_of (state_of from.old).pairs number ∷ []) }
     ensures room { S.tells → P.tells → IsPut result (frames_of to.old)
         (pair_of (state_of from.old).pairs number ∷ []) (frames_of to.new) }
-    ensures reads { ReadsOn from.old from.new }
+    ensures reads { OnlyReadsStore from.old from.new }
     ensures puts { PutsOn to.old to.new }
-    ensures from_whole { OnOk result (IsTrue (state_of from.new).whole) }
-    ensures to_whole { OnOk result (IsTrue (state_of to.new).whole) }
+    ensures whole { OnOk result (IsTrue (state_of to.new).whole) }
     ensures answers { IfErr result IsFillErr }
     ensures cause { CountsBoth is_fault (state_of from.old).faults (state_of from.new).faults
         (state_of to.old).faults (state_of to.new).faults result }

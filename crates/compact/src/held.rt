@@ -7,10 +7,9 @@ ghost use Rattle.cache_api.specs.Cache.{is_fault, IsFindErr, ample};
 ghost use Rattle.cache_api.specs.Memory.{capped, OnlyMemory};
 ghost use Rattle.cache_api.specs.Reading.{artifact_in};
 ghost use Rattle.pair_frames.specs.Laws.{AreTexts};
-ghost use Rattle.artifact_store.specs.Store.{state_of, count_in};
+ghost use Rattle.artifact_store.specs.Store.{state_of, count_in, OnlyReadsStore};
 ghost use Rattle.compact.specs.Chosen.{is_useful};
 ghost use Rattle.compact.specs.Picks.{pair_of, held_pair};
-ghost use Rattle.compact.specs.Sources.{ReadsOn};
 
 use artifact_store::Store;
 use cache_api::{Artifact, CacheErr, artifact_law};
@@ -45,8 +44,7 @@ pub(crate) fn read_held<S: StoreDevice>(
     ensures texts { IfOk result (λ o. IfSome o (λ held. AreTexts (held_pair held))) }
     ensures room { IfOk result (λ o. IfSome o (λ held.
         held.room ≡ capped (ample (held_pair held)))) }
-    ensures reads { ReadsOn from.old from.new }
-    ensures whole { OnOk result (IsTrue (state_of from.new).whole) }
+    ensures reads { OnlyReadsStore from.old from.new }
     ensures answers { IfErr result IsFindErr }
     ensures cause { Counts is_fault (state_of from.old).faults
         (state_of from.new).faults result }
