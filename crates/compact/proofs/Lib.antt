@@ -5,3 +5,4 @@ pub mod Telling
 pub mod Moments
 pub mod Keys
 pub mod Faulting
+pub mod Stepping
