@@ -1,10 +1,12 @@
 -- Whether a pair that was picked has a key, found by fingerprints.
 use Rattle.std.proofs.Common.{◌≡◌, ◌≢◌, ◌≤◌, ◌<◌, inl, inr, ℕ, ◌+◌, Bool, true, false, List, [], ◌∷◌, ◌++◌, length, map, get_or, Option, Some, None, refl, sym, ◌∙◌, ap, subst, arith}
-use Rattle.std.specs.Prelude.{◌||◌, reverse, slice_get, bytes_eq, All}
+use Rattle.std.specs.Prelude.{◌||◌, reverse, slice_get, bytes_eq, All, IfSome, IfNone}
+use Rattle.std.specs.Option.{option_map_or}
 use Rattle.std.specs.List.{list_any}
 use Rattle.std.proofs.lemmas.Bool.{cases_lt, cases_eq}
 use Rattle.std.proofs.lemmas.List.{reverse-append, length-map, get_or-map}
 use Rattle.std.proofs.lemmas.List.Folds.{list_any-append, list_any_at, list_any_none}
+use Rattle.std.proofs.lemmas.Grind.{get_or_default_zero}
 use Rattle.std.proofs.lemmas.Option.{slice_get-get_or}
 use Rattle.std.proofs.lemmas.Slice.Eq.{bytes_eq-Decides}
 use Rattle.sha2.specs.Sha256.{sha256}
@@ -142,3 +144,50 @@ module _ (pairs : List Pair) (numbers : List ℕ) (digests : List (List ℕ)) (k
       ]
     ];
   }
+
+-- ---- answers of the index
+
+pub next_below : (digests : List (List ℕ)) (limit : ℕ) (print : List ℕ) (next : Option ℕ)
+    → IfSome next (IsLastBelow digests limit print) → IfNone next (NoneBelow digests limit print)
+    → IsNextBelow digests limit print next
+next_below digests limit print None some none = none
+next_below digests limit print (Some place) some none = some
+
+pub next_inside : (digests : List (List ℕ)) (limit : ℕ) (print : List ℕ) (next : Option ℕ)
+    → IsNextBelow digests limit print next → limit ≤ length digests
+    → IfSome next (λ place. place < length digests)
+next_inside digests limit print None below le = tt
+next_inside digests limit print (Some place) last le = omega (arith, last.below, le)
+
+-- the walk goes down
+pub next_falls : (digests : List (List ℕ)) (limit : ℕ) (print : List ℕ) (next : Option ℕ)
+    → IsNextBelow digests limit print next
+    → option_map_or (λ (place : ℕ). place + 1) next 0 < limit + 1
+next_falls digests limit print None below = omega arith
+next_falls digests limit print (Some place) last = omega (arith, last.below)
+
+pub there : (digests : List (List ℕ)) (place : ℕ) → place < length digests
+    → slice_get digests place ≡ Some (get_or digests place [])
+there digests place lt = slice_get-get_or digests place [] lt
+
+-- ---- comparing whole keys
+
+pub same_key : (a b : List ℕ) → bytes_eq a b ≡ true → a ≡ b
+same_key a b is = (bytes_eq-Decides a b).0 is
+
+pub other_key : (a b : List ℕ) → bytes_eq a b ≡ false → a ≢ b
+other_key a b is same =
+    let yes : bytes_eq a b ≡ true = same_bytes a b same in
+    absurd (cc (is, yes))
+
+-- ---- the place that was compared
+
+pub number_at : (xs : List ℕ) (i n : ℕ) → i < length xs → n ≡ get_or xs i n → n ≡ get_or xs i 0
+number_at xs i n lt is = is ∙ get_or_default_zero xs i n lt
+
+-- the pairs are those at first, and the number is that at the place
+pub compared : (pairs now : List Pair) (numbers : List ℕ) (place n : ℕ) (key : List ℕ) (b : Bool)
+    → now ≡ pairs → place < length numbers → n ≡ get_or numbers place n
+    → b ≡ bytes_eq (pair_of now n).0 key → bytes_eq (key_at pairs numbers place) key ≡ b
+compared pairs now numbers place n key b same lt at is =
+    (λ i. bytes_eq (pair_of (sym same i) (sym (number_at numbers place n lt at) i)).0 key) ∙ sym is

@@ -6,3 +6,5 @@ pub mod Moments
 pub mod Keys
 pub mod Faulting
 pub mod Stepping
+pub mod Seeking
+pub mod Picking

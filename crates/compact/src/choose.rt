@@ -1,5 +1,5 @@
 // Which pairs of a store are kept.
-ghost use Rattle.std.specs.Prelude.{◌≡◌, ◌<◌, ◌≤◌, ◌+◌, [], length, All, IsTrue, IfOk, IfErr, OnOk};
+ghost use Rattle.std.specs.Prelude.{◌≡◌, ◌<◌, ◌≤◌, ◌+◌, [], length, bytes_eq, All, IsTrue, IfOk, IfErr, OnOk};
 ghost use Rattle.rel_path.specs.Causes.{Counts};
 ghost use Rattle.cache_api.specs.Cache.{is_fault, IsFindErr};
 ghost use Rattle.artifact_store.specs.Store.{state_of, count_in, OnlyReadsStore};
@@ -57,7 +57,8 @@ fn pick_all<S: StoreDevice>(
 {
     let mut left = from.count();
     while left > 0 {
-        if picks.is_enough(keep) {
+        let enough = picks.is_enough(keep);
+        if enough {
             return Ok(());
         }
         left -= 1;
@@ -118,11 +119,31 @@ fn is_picked<S: StoreDevice>(
     let mut next = picks.prints.last(&Sha256::digest(key));
     while let Some(place) = next {
         let number = picks.numbers[place as usize];
-        let (other, _) = from.pair_at(alloc, number)?;
-        if other.as_slice() == key {
+        let same = is_key_of(alloc, from, number, key)?;
+        if same {
             return Ok(true);
         }
         next = picks.prints.before(place);
     }
     Ok(false)
+}
+
+/// Whether the pair with that number has that key.
+fn is_key_of<S: StoreDevice>(
+    alloc: Global,
+    from: &mut Store<S>,
+    number: u64,
+    key: &[u8],
+) -> Result<bool, CacheErr>
+    requires whole { IsTrue (state_of from.old).whole }
+    requires number { number < count_in from.old }
+    ensures value { S.tells → IfOk result (λ b.
+        b ≡ bytes_eq (pair_of (state_of from.old).pairs number).0 key.now) }
+    ensures reads { OnlyReadsStore from.old from.new }
+    ensures answers { IfErr result IsFindErr }
+    ensures cause { Counts is_fault (state_of from.old).faults
+        (state_of from.new).faults result }
+{
+    let (other, _) = from.pair_at(alloc, number)?;
+    Ok(other.as_slice() == key)
 }
