@@ -8,3 +8,4 @@ pub mod Faulting
 pub mod Stepping
 pub mod Seeking
 pub mod Picking
+pub mod Filling

@@ -89,13 +89,14 @@ fn batch_of<S: StoreDevice>(
     let mut held = Vec::new(alloc);
     let mut room = 0u64;
     for (taken, number) in numbers.iter().enumerate() {
-        if let Some(pair) = read_held(alloc, from, *number)? {
-            room = room.saturating_add(pair.room);
-            if room > most {
-                return Ok(Batch { held, taken });
-            }
-            held.push(pair)?;
+        let Some(pair) = read_held(alloc, from, *number)? else {
+            continue;
+        };
+        room = room.saturating_add(pair.room);
+        if room > most {
+            return Ok(Batch { held, taken });
         }
+        held.push(pair)?;
     }
     Ok(Batch {
         held,
@@ -173,7 +174,8 @@ fn put_fitting<P: StoreDevice>(
 {
     let pairs = new_pairs(alloc, held)?;
     let puts = to.put_all(alloc, pairs.as_slice())?;
-    if any_full(puts.as_slice()) {
+    let full = any_full(puts.as_slice());
+    if full {
         // A device that tells nothing may have lost its room.
         return Err(CompactErr::NoRoom {
             need: u64::MAX,
