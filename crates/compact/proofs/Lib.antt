@@ -9,3 +9,4 @@ pub mod Stepping
 pub mod Seeking
 pub mod Picking
 pub mod Filling
+pub mod Batching
