@@ -10,3 +10,4 @@ pub mod Seeking
 pub mod Picking
 pub mod Filling
 pub mod Batching
+pub mod Parts

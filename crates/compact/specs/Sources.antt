@@ -1,5 +1,5 @@
 -- The store that is read, and the one that is written, over calls.
-use Rattle.std.specs.Prelude.{◌≡◌, ◌⊎◌, ◌<◌, ◌+◌, ◌++◌, ℕ, Bool, IsTrue, List, [], Result, Ok, Err, Some, Option}
+use Rattle.std.specs.Prelude.{◌≡◌, ◌⊎◌, ◌<◌, ◌+◌, ◌++◌, ℕ, Bool, IsTrue, List, [], drop, Result, Ok, Err, Some, Option}
 use Rattle.rel_path.specs.Causes.{Counts}
 use Rattle.store_dev.specs.Device.{LeavesOnly}
 use Rattle.store_dev.specs.declared.device.StoreDevice.{Ghosts}
@@ -105,6 +105,14 @@ IsPut (Ok _) fs pairs gs = (generation : ℕ) (rest : List Pair)
 IsPut (Err (NoRoom n f)) fs pairs gs = (generation : ℕ) (rest : List Pair)
     → lacking generation fs (pairs ++ rest) ≡ Some (record { need = n; free = f })
 IsPut (Err _) fs pairs gs = Unit {0}
+
+-- the same where of these pairs so many were put
+abbrev pub IsPutInPart : Result ℕ CompactErr → List Entry → List Pair → List Entry → Type 0
+IsPutInPart (Ok taken) fs pairs gs = (generation : ℕ) (rest : List Pair)
+    → lacking generation fs (pairs ++ rest) ≡ lacking generation gs (drop taken pairs ++ rest)
+IsPutInPart (Err (NoRoom n f)) fs pairs gs = (generation : ℕ) (rest : List Pair)
+    → lacking generation fs (pairs ++ rest) ≡ Some (record { need = n; free = f })
+IsPutInPart (Err _) fs pairs gs = Unit {0}
 
 -- the same of the frames of an empty store, where the device is handed on
 abbrev pub IsStepPut : {P : Type 0} (G : Ghosts P) → Result P (Unopened P CompactErr) → List Pair → Type 0

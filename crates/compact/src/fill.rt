@@ -9,7 +9,7 @@ ghost use Rattle.artifact_store.specs.Store.{frames_of, state_of, count_in, Only
 ghost use Rattle.compact.specs.Answers.{CountsBoth, is_fault};
 ghost use Rattle.compact.specs.Picks.{AreUseful, pair_of, pairs_at, held_pair, held_pairs};
 ghost use Rattle.compact.specs.Room.{AllFit};
-ghost use Rattle.compact.specs.Sources.{PutsOn, IsPut, IsFillErr};
+ghost use Rattle.compact.specs.Sources.{PutsOn, IsPut, IsPutInPart, IsFillErr};
 
 use crate::CompactErr;
 use crate::held::{Held, read_held};
@@ -53,16 +53,45 @@ pub(crate) fn fill<S: StoreDevice, P: StoreDevice>(
 {
     let mut place = 0;
     while place < numbers.len() {
-        let batch = batch_of(alloc, from, &numbers[place..], to.free())?;
-        if batch.taken == 0 {
-            put_one(alloc, from, to, numbers[place])?;
-            place += 1;
-        } else {
-            put_fitting(alloc, to, batch.held.as_slice())?;
-            place += batch.taken;
-        }
+        let taken = put_some(alloc, from, to, &numbers[place..])?;
+        place += taken;
     }
     Ok(())
+}
+
+/// Puts the first of the pairs with these numbers, one at least, and answers how many.
+fn put_some<S: StoreDevice, P: StoreDevice>(
+    alloc: Global,
+    from: &mut Store<S>,
+    to: &mut Store<P>,
+    numbers: &[u64],
+) -> Result<usize, CompactErr>
+    requires some { 0 < length numbers.now }
+    requires from_whole { IsTrue (state_of from.old).whole }
+    requires to_whole { IsTrue (state_of to.old).whole }
+    requires below { All (λ number. number < count_in from.old) numbers.now }
+    requires useful { S.tells → AreUseful (pairs_at (state_of from.old).pairs numbers.now) }
+    ensures taken { IfOk result (λ taken. (0 < taken) × (taken ≤ length numbers.now)) }
+    ensures pairs { S.tells → P.tells → IfOk result (λ taken. (state_of to.new).pairs
+        ≡ (state_of to.old).pairs
+        ++ take taken (pairs_at (state_of from.old).pairs numbers.now)) }
+    ensures room { S.tells → P.tells → IsPutInPart result (frames_of to.old)
+        (pairs_at (state_of from.old).pairs numbers.now) (frames_of to.new) }
+    ensures reads { OnlyReadsStore from.old from.new }
+    ensures puts { PutsOn to.old to.new }
+    ensures whole { OnOk result (IsTrue (state_of to.new).whole) }
+    ensures answers { IfErr result IsFillErr }
+    ensures cause { CountsBoth is_fault (state_of from.old).faults (state_of from.new).faults
+        (state_of to.old).faults (state_of to.new).faults result }
+{
+    let free = to.free();
+    let batch = batch_of(alloc, from, numbers, free)?;
+    if batch.taken == 0 {
+        put_one(alloc, from, to, numbers[0])?;
+        return Ok(1);
+    }
+    put_fitting(alloc, to, batch.held.as_slice())?;
+    Ok(batch.taken)
 }
 
 /// The first of the pairs with these numbers, as many as certainly have room together and are few enough for a batch.
