@@ -1,8 +1,8 @@
 -- Pairs that are put part by part.
-use Rattle.std.proofs.Common.{◌≡◌, ◌≤◌, ◌<◌, ℕ, ◌+◌, Bool, true, List, [], ◌∷◌, ◌++◌, length, take, drop, get_or, Option, Some, Result, Ok, Err, refl, sym, ◌∙◌, ap, subst, arith, append_assoc, take-append-drop}
+use Rattle.std.proofs.Common.{◌≡◌, ◌≤◌, ◌<◌, ℕ, ◌+◌, ◌-◌, Bool, true, List, [], ◌∷◌, ◌++◌, length, take, drop, get_or, Option, Some, Result, Ok, Err, refl, sym, ◌∙◌, ap, subst, arith, append_assoc, take-append-drop}
 use Rattle.std.specs.Prelude.{IsTrue}
 use Rattle.std.proofs.lemmas.List.{append-nil, length-drop, drop-drop, drop_all, take_all, length-map, drop-map}
-use Rattle.std.proofs.lemmas.List.Elements.{All-nil, All-cons, All-head}
+use Rattle.std.proofs.lemmas.List.Elements.{All-nil, All-cons, All-head, All-drop}
 use Rattle.std.proofs.Math.Seq.{take-add}
 use Rattle.store_dev.specs.declared.device.StoreDevice.{Ghosts}
 use Rattle.cache_api.specs.Pairs.{Pair}
@@ -98,23 +98,24 @@ module _ {S P : Type 0} {G : Ghosts S} {H : Ghosts P} (numbers : List ℕ) where
   }
 
   pub filling_next : (from mid_from new_from : Store S G) (to mid_to new_to : Store P H)
-      (place taken : ℕ) → IsFilling from mid_from to mid_to numbers place
+      (place taken : ℕ) (part : List ℕ) → part ≡ drop place numbers
+      → IsFilling from mid_from to mid_to numbers place
       → OnlyReadsStore mid_from new_from
       → (state_of new_from).faults ≡ (state_of mid_from).faults → PutsOn mid_to new_to
       → IsTrue (state_of new_to).whole → (state_of new_to).faults ≡ (state_of mid_to).faults
-      → taken ≤ length (drop place numbers)
+      → taken ≤ length part
       → (G.tells → H.tells → (state_of new_to).pairs ≡ (state_of mid_to).pairs
-      ++ take taken (pairs_at (state_of mid_from).pairs (drop place numbers)))
+      ++ take taken (pairs_at (state_of mid_from).pairs part))
       → (G.tells → H.tells → IsPutInPart (Ok taken) (frames_of mid_to)
-      (pairs_at (state_of mid_from).pairs (drop place numbers)) (frames_of new_to))
+      (pairs_at (state_of mid_from).pairs part) (frames_of new_to))
       → IsFilling from new_from to new_to numbers (place + taken)
-  filling_next from mid_from new_from to mid_to new_to place taken x reads from_same puts whole to_same few more room = record {
+  filling_next from mid_from new_from to mid_to new_to place taken part is x reads from_same puts whole to_same few more room = record {
     reads = reads_both from mid_from new_from x.reads reads;
     from_faults = from_same ∙ x.from_faults;
     puts = puts_both to mid_to new_to x.puts puts;
     whole = whole;
     to_faults = to_same ∙ x.to_faults;
-    inside = omega (arith, few, x.inside, length-drop place numbers);
+    inside = omega (arith, few, x.inside, ap length is, length-drop place numbers);
     pairs = λ told tells.
         let all = pairs_at (state_of from).pairs numbers in
         more told tells
@@ -130,8 +131,8 @@ module _ {S P : Type 0} {G : Ghosts S} {H : Ghosts P} (numbers : List ℕ) where
         ∙ ap (λ (l : List Pair). lacking generation (frames_of new_to) (l ++ rest)) (drop-drop taken place all);
   }
     where
-      behind : pairs_at (state_of mid_from).pairs (drop place numbers) ≡ drop place (pairs_at (state_of from).pairs numbers)
-      behind = pairs_behind (state_of from).pairs (state_of mid_from).pairs numbers place (pairs_read from mid_from x.reads)
+      behind : pairs_at (state_of mid_from).pairs part ≡ drop place (pairs_at (state_of from).pairs numbers)
+      behind = ap (pairs_at (state_of mid_from).pairs) is ∙ pairs_behind (state_of from).pairs (state_of mid_from).pairs numbers place (pairs_read from mid_from x.reads)
 
   -- all of them
   pub filling_pairs : (from now_from : Store S G) (to now_to : Store P H) (place : ℕ)
@@ -153,17 +154,31 @@ module _ {S P : Type 0} {G : Ghosts S} {H : Ghosts P} (numbers : List ℕ) where
 
   -- one of them lacks room
   pub filling_lacks : (e : CompactErr) (from mid_from : Store S G) (to mid_to : Store P H)
-      (hs gs : List Entry) (place : ℕ) → IsFilling from mid_from to mid_to numbers place
+      (hs gs : List Entry) (place : ℕ) (part : List ℕ) → part ≡ drop place numbers
+      → IsFilling from mid_from to mid_to numbers place
       → IsPutInPart (Err e) (frames_of mid_to)
-      (pairs_at (state_of mid_from).pairs (drop place numbers)) hs → G.tells → H.tells
+      (pairs_at (state_of mid_from).pairs part) hs → G.tells → H.tells
       → IsPut {T = Unit {0}} (Err e) (frames_of to) (pairs_at (state_of from).pairs numbers) gs
-  filling_lacks (From fault) from mid_from to mid_to hs gs place x lacks told tells = tt
-  filling_lacks (To fault) from mid_from to mid_to hs gs place x lacks told tells = tt
-  filling_lacks (NoRoom n f) from mid_from to mid_to hs gs place x lacks told tells = λ generation rest.
-      let behind = pairs_behind (state_of from).pairs (state_of mid_from).pairs numbers place (pairs_read from mid_from x.reads) in
+  filling_lacks (From fault) from mid_from to mid_to hs gs place part is x lacks told tells = tt
+  filling_lacks (To fault) from mid_from to mid_to hs gs place part is x lacks told tells = tt
+  filling_lacks (NoRoom n f) from mid_from to mid_to hs gs place part is x lacks told tells = λ generation rest.
+      let behind = ap (pairs_at (state_of mid_from).pairs) is ∙ pairs_behind (state_of from).pairs (state_of mid_from).pairs numbers place (pairs_read from mid_from x.reads) in
       x.room told tells generation rest
       ∙ ap (λ (l : List Pair). lacking generation (frames_of mid_to) (l ++ rest)) (sym behind)
       ∙ lacks generation rest
-  filling_lacks LastGeneration from mid_from to mid_to hs gs place x lacks told tells = tt
-  filling_lacks Failed from mid_from to mid_to hs gs place x lacks told tells = tt
-  filling_lacks OutOfMemory from mid_from to mid_to hs gs place x lacks told tells = tt
+  filling_lacks LastGeneration from mid_from to mid_to hs gs place part is x lacks told tells = tt
+  filling_lacks Failed from mid_from to mid_to hs gs place part is x lacks told tells = tt
+  filling_lacks OutOfMemory from mid_from to mid_to hs gs place part is x lacks told tells = tt
+
+-- what is behind a place, as a slice of it is
+pub behind_is : (numbers : List ℕ) (place : ℕ)
+    → take (length numbers - place) (drop place numbers) ≡ drop place numbers
+behind_is numbers place =
+    take_all (length numbers - place) (drop place numbers) (omega (arith, length-drop place numbers))
+
+pub useful_behind : (pairs now : List Pair) (numbers part : List ℕ) (place : ℕ) → now ≡ pairs
+    → part ≡ drop place numbers → AreUseful (pairs_at pairs numbers)
+    → AreUseful (pairs_at now part)
+useful_behind pairs now numbers part place same is all =
+    subst AreUseful (sym (ap (pairs_at now) is ∙ pairs_behind pairs now numbers place same))
+    (All-drop (λ p. is_useful p ≡ true) place (pairs_at pairs numbers) all)
