@@ -11,3 +11,4 @@ pub mod Picking
 pub mod Filling
 pub mod Batching
 pub mod Parts
+pub mod Refilling
