@@ -12,3 +12,4 @@ pub mod Filling
 pub mod Batching
 pub mod Parts
 pub mod Refilling
+pub mod Renewing
