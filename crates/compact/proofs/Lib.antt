@@ -13,3 +13,4 @@ pub mod Batching
 pub mod Parts
 pub mod Refilling
 pub mod Renewing
+pub mod Sourcing
