@@ -1,6 +1,6 @@
 -- Pairs that are read for a batch.
-use Rattle.std.proofs.Common.{◌≡◌, ◌≤◌, ◌<◌, ℕ, ◌+◌, ◌-◌, ◌^◌, Bool, true, false, List, [], ◌∷◌, ◌++◌, length, map, take, get_or, Option, Some, None, refl, sym, ◌∙◌, ap, subst, arith}
-use Rattle.std.specs.Prelude.{All, min, sum_by, is_some, IfSome, IfNone}
+use Rattle.std.proofs.Common.{◌≡◌, ◌≤◌, ◌<◌, ℕ, ◌+◌, ◌-◌, ◌^◌, true, false, List, [], ◌∷◌, ◌++◌, length, take, get_or, Option, Some, None, refl, sym, ◌∙◌, ap, subst, arith}
+use Rattle.std.specs.Prelude.{min, sum_by, is_some, IfSome, IfNone}
 use Rattle.std.proofs.lemmas.List.{map-append, length-map, get_or-map, take_more}
 use Rattle.std.proofs.lemmas.List.Sums.{sum_by-append}
 use Rattle.codes.specs.Codes.{Each}
@@ -11,7 +11,7 @@ use Rattle.cache_api.specs.Pairs.{Pair}
 use Rattle.cache_api.specs.Reading.{artifact_in}
 use Rattle.pair_frames.specs.Laws.{AreTexts}
 use Rattle.artifact_store.specs.declared.store.Store.{Store}
-use Rattle.artifact_store.specs.Store.{state_of, count_in, OnlyReadsStore}
+use Rattle.artifact_store.specs.Store.{state_of, OnlyReadsStore}
 use Rattle.artifact_store.proofs.Carry.{reads_both}
 use Rattle.compact.specs.declared.held.Held.{Held}
 use Rattle.compact.specs.Picks.{AreUseful, pair_of, pairs_at, held_pair, held_pairs}

@@ -1,11 +1,11 @@
 -- What holds of each pair holds of each that is chosen, and of each of a chain.
-use Rattle.std.proofs.Common.{◌≡◌, inl, inr, ℕ, ◌-◌, Bool, true, false, cond, List, [], ◌∷◌, ◌++◌, length, drop, Option, Some, None, sym, subst}
+use Rattle.std.proofs.Common.{◌≡◌, inl, inr, ℕ, ◌-◌, Bool, true, false, cond, List, [], ◌∷◌, length, Option, Some, None, sym, subst}
 use Rattle.std.specs.Prelude.{All, filter}
 use Rattle.std.proofs.lemmas.List.Elements.{All-nil, All-cons, All-head, All-tail, All-append, All-filter, All-drop, filter_passes}
 use Rattle.cache_api.specs.Pairs.{Pair}
 use Rattle.compact.specs.Chosen.{is_useful, has_key, lasts, last_of, chosen}
 use Rattle.compact.specs.Picks.{AreUseful}
-use Rattle.compact.specs.Chains.{AddsGood, IsCompacted, IsChain, ChainLaw}
+use Rattle.compact.specs.Chains.{IsChain, ChainLaw}
 
 module _ (Good : Pair → Type 0) where
   lasts_by : (b : Bool) (p : Pair) (ps : List Pair) → Good p → All Good ps

@@ -1,12 +1,12 @@
 -- The pairs that are chosen, from the last to the first.
-use Rattle.std.proofs.Common.{◌≡◌, ◌≤◌, ◌<◌, ℕ, zero, suc, ◌+◌, ◌-◌, Bool, true, false, cond, List, [], ◌∷◌, ◌++◌, length, map, drop, get_or, Option, Some, None, refl, sym, ◌∙◌, ap, subst, arith, length-append}
+use Rattle.std.proofs.Common.{◌≡◌, ◌≤◌, ◌<◌, ℕ, zero, suc, ◌+◌, ◌-◌, Bool, true, false, cond, List, [], ◌∷◌, ◌++◌, length, map, drop, get_or, Option, Some, None, refl, sym, ◌∙◌, ap, arith, length-append}
 use Rattle.std.specs.Prelude.{◌||◌, filter, reverse, bytes_eq}
-use Rattle.std.proofs.lemmas.List.{reverse-append, map-append, drop_more, length-reverse}
+use Rattle.std.proofs.lemmas.List.{reverse-append, map-append, drop_more}
 use Rattle.std.proofs.lemmas.Slice.Eq.{bytes_eq-Decides}
 use Rattle.std.proofs.Math.Seq.{drop-append_seam}
 use Rattle.cache_api.specs.Pairs.{Pair}
 use Rattle.compact.specs.Chosen.{is_useful, has_key, lasts, last_of, chosen}
-use Rattle.compact.specs.Picks.{pair_of, picked, pairs_at, picked_with}
+use Rattle.compact.specs.Picks.{pair_of, picked, picked_with}
 
 -- ---- keys of those whose key does not stand again later
 

@@ -1,7 +1,7 @@
 -- What is answered for devices that were not opened.
-use Rattle.std.proofs.Common.{◌≡◌, ℕ, List, Result, Ok, refl, sym, ◌∙◌, ap, subst}
-use Rattle.record_log.specs.Kinds.{Entry, generation_of}
-use Rattle.record_log.specs.Frames.{reading, frames_of, IsSound, IsOpenedAs}
+use Rattle.std.proofs.Common.{◌≡◌, ℕ, List, sym, ◌∙◌, ap, subst}
+use Rattle.record_log.specs.Kinds.{generation_of}
+use Rattle.record_log.specs.Frames.{frames_of, IsSound, IsOpenedAs}
 use Rattle.artifact_store.specs.declared.error.OpenErr.{OpenErr}
 use Rattle.artifact_store.specs.declared.error.OpenErr.TheVariants as opening
 use Rattle.compact.specs.declared.error.CurrentErr.{CurrentErr}

@@ -1,12 +1,10 @@
 -- Pairs that are put into a store.
-use Rattle.std.proofs.Common.{◌≡◌, ◌≤◌, ◌<◌, ◌⊎◌, inl, inr, ℕ, ◌+◌, ◌-◌, ◌*◌, ◌^◌, Bool, true, false, cond, List, [], ◌∷◌, ◌++◌, length, map, take, drop, Option, Some, None, refl, sym, ◌∙◌, ap, subst, arith}
-use Rattle.std.specs.Prelude.{IsTrue, All, sum_by, min}
+use Rattle.std.proofs.Common.{◌≡◌, ◌≤◌, ◌<◌, ℕ, ◌+◌, ◌^◌, List, [], ◌∷◌, ◌++◌, length, map, take, Some, refl, sym, ◌∙◌, ap, subst, arith}
+use Rattle.std.specs.Prelude.{IsTrue, All}
 use Rattle.std.proofs.lemmas.List.Elements.{All-nil, All-cons}
 use Rattle.codes.specs.Codes.{Each}
-use Rattle.store_dev.specs.Device.{LeavesOnly}
 use Rattle.store_dev.specs.Moments.{started, leaves_more, leaves_then}
 use Rattle.store_dev.specs.declared.device.StoreDevice.{Ghosts}
-use Rattle.cache_api.specs.declared.puts.Put.{Put}
 use Rattle.cache_api.specs.declared.puts.Put.TheVariants.{Stored}
 use Rattle.cache_api.specs.Moments.{Leaves}
 use Rattle.cache_api.specs.Pairs as cache
@@ -14,7 +12,7 @@ use Rattle.cache_api.specs.Pairs.{Pair, IsFirstPart}
 use Rattle.cache_api.specs.Memory.{capped}
 use Rattle.record_log.specs.Kinds.{Entry}
 use Rattle.record_log.specs.Frames.{opened}
-use Rattle.pair_frames.specs.Puts.{put_frames, put_size, fit, added, kept}
+use Rattle.pair_frames.specs.Puts.{put_size, added}
 use Rattle.pair_frames.specs.Laws.{AreTexts}
 use Rattle.pair_frames.proofs.Several.{several_writable}
 use Rattle.pair_writer.specs.Putting.{put_of}
@@ -22,10 +20,9 @@ use Rattle.artifact_store.specs.declared.store.Store.{Store}
 use Rattle.artifact_store.specs.Outcomes.{outcomes}
 use Rattle.artifact_store.specs.Pairs.{told_as}
 use Rattle.artifact_store.specs.Laws.{images_told, at_device}
-use Rattle.artifact_store.specs.Store.{device_of, state_of, frames_of, moment_of, left_of, OnlyReadsStore}
+use Rattle.artifact_store.specs.Store.{device_of, state_of, frames_of, moment_of, left_of}
 use Rattle.artifact_store.proofs.Fits.{texts_put, outcomes_fit, kept_chosen}
-use Rattle.compact.specs.Left.{IsStoreOf}
-use Rattle.compact.specs.Room.{free_behind, lack, lacking, AllFit}
+use Rattle.compact.specs.Room.{free_behind, lacking, AllFit}
 use Rattle.compact.specs.Sources.{PutsOn, IsOfGeneration}
 use Rattle.compact.proofs.Fitting.{all_true, fit_all, kept_all, lacking_all, lacking_not}
 

@@ -1,14 +1,12 @@
 -- Pairs that fit, put one after another.
-use Rattle.std.proofs.Common.{◌≡◌, ◌≤◌, ◌<◌, ℕ, ◌+◌, ◌-◌, ◌^◌, Bool, true, false, cond, List, [], ◌∷◌, ◌++◌, length, Option, Some, None, refl, sym, ◌∙◌, ap, subst, arith, append_assoc, length-append}
-use Rattle.std.specs.Prelude.{sum_by, nat_le}
+use Rattle.std.proofs.Common.{◌≡◌, ◌≤◌, ◌<◌, ℕ, ◌-◌, Bool, true, List, [], ◌∷◌, ◌++◌, Some, refl, sym, ◌∙◌, ap, subst, arith, append_assoc}
+use Rattle.std.specs.Prelude.{sum_by}
 use Rattle.std.proofs.lemmas.Bool.{le-leb, lt-leb}
 use Rattle.std.proofs.lemmas.List.{append-nil}
 use Rattle.codes.specs.Codes.{Each}
-use Rattle.cache_api.specs.Memory.{capped}
 use Rattle.cache_api.specs.Pairs.{Pair}
 use Rattle.cache_api.specs.Cache.{ample}
 use Rattle.record_log.specs.Kinds.{Entry}
-use Rattle.record_log.specs.Frames.{opened, ends}
 use Rattle.record_log.specs.Texts.{ends_append}
 use Rattle.pair_frames.specs.Puts.{put_frames, put_size, fit, added, kept}
 use Rattle.pair_frames.specs.Laws.{AreTexts}
@@ -26,9 +24,10 @@ pub ample_fits : (pairs : List Pair) (room : ℕ) (fs : List Entry) → Each Are
 ample_fits [] room fs texts le = tt
 ample_fits (pair ∷ pairs) room fs texts le =
     let size = size_ample fs pair texts.0 in
-    let sum = sum_cons ample pair pairs in
-    (omega (arith, size, sum, le),
-    ample_fits pairs (room - put_size fs pair) (fs ++ put_frames fs pair) texts.1 (omega (arith, size, sum, le)))
+    let sum = sum_cons ample pair pairs in (
+      omega (arith, size, sum, le),
+      ample_fits pairs (room - put_size fs pair) (fs ++ put_frames fs pair) texts.1 (omega (arith, size, sum, le)),
+    )
 
 -- all are put
 pub fit_all : (pairs : List Pair) (room : ℕ) (fs : List Entry) → AllFit room fs pairs

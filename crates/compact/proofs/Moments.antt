@@ -1,6 +1,5 @@
 -- Two stores at every moment while one is compacted into the other.
-use Rattle.std.proofs.Common.{◌≡◌, ◌≤◌, ◌<◌, ◌⊎◌, inl, inr, ⊎_elim, ℕ, ◌+◌, Bool, true, false, cond, List, Option, Some, refl, sym, ◌∙◌, ap, subst, arith}
-use Rattle.std.specs.Prelude.{nat_lt}
+use Rattle.std.proofs.Common.{◌≡◌, ◌≤◌, ◌<◌, inl, inr, ⊎_elim, ℕ, ◌+◌, Bool, cond, List, Some, ◌∙◌, ap, arith}
 use Rattle.std.proofs.lemmas.Bool.{cases_lt, le-ltb, lt-ltb}
 use Rattle.cache_api.specs.Pairs.{Pair}
 use Rattle.record_log.specs.Frames.{IsSound}
@@ -10,7 +9,7 @@ use Rattle.compact.specs.declared.side.Side.{Side}
 use Rattle.compact.specs.declared.side.Side.TheVariants.{First, Spare}
 use Rattle.compact.specs.Current.{generation_in, pairs_held, newer_of, on_side, IsCurrentOn, pairs_by}
 use Rattle.compact.specs.Left.{ReadsAs, IsUnsealed, IsStoreOf, IsRenewing, IsEither}
-use Rattle.compact.proofs.Telling.{store_tells, tells_same, tells_itself, stands_itself, sound_same}
+use Rattle.compact.proofs.Telling.{store_tells, tells_same, tells_itself, stands_itself}
 
 -- ---- the side with the greater generation
 

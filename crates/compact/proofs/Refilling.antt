@@ -1,7 +1,7 @@
 -- A spare store that was cleared, opened and filled.
-use Rattle.std.proofs.Common.{◌≡◌, ℕ, List, [], ◌++◌, Option, Some, Ok, refl, sym, ◌∙◌, ap, subst}
+use Rattle.std.proofs.Common.{◌≡◌, ℕ, List, [], ◌++◌, Ok, refl, ◌∙◌, ap, subst}
 use Rattle.std.specs.Prelude.{IsTrue}
-use Rattle.store_dev.specs.Device.{Only, LeavesOnly}
+use Rattle.store_dev.specs.Device.{LeavesOnly}
 use Rattle.store_dev.specs.Moments.{leaves_more, leaves_then}
 use Rattle.store_dev.specs.declared.device.StoreDevice.{Ghosts}
 use Rattle.cache_api.specs.Pairs.{Pair}

@@ -1,19 +1,17 @@
 -- A spare store over the three steps.
-use Rattle.std.proofs.Common.{◌≡◌, ◌≤◌, ◌⊎◌, inl, inr, ℕ, List, [], ◌++◌, Option, Some, Result, Ok, Err, refl, sym, ◌∙◌, ap, subst}
+use Rattle.std.proofs.Common.{◌≡◌, inl, inr, ℕ, List, [], Ok, Err, sym, ◌∙◌, ap, subst}
 use Rattle.std.proofs.lemmas.List.{append-nil}
 use Rattle.store_dev.specs.Device.{LeavesOnly}
 use Rattle.store_dev.specs.Moments.{leaves_then, leaves_more}
-use Rattle.store_dev.specs.declared.device.StoreDevice.{Ghosts}
 use Rattle.cache_api.specs.Pairs.{Pair}
 use Rattle.record_log.specs.Kinds.{Entry}
 use Rattle.compact.specs.declared.error.CompactErr.{CompactErr}
 use Rattle.compact.specs.declared.error.CompactErr.TheVariants.{From, To, NoRoom, LastGeneration, Failed, OutOfMemory}
 use Rattle.compact.specs.Answers.{IsNoRoomWhere}
-use Rattle.compact.specs.Current.{pairs_held}
 use Rattle.compact.specs.Left.{ReadsAs, IsStoreOf, IsUnsealed, IsRenewing}
-use Rattle.compact.specs.Room.{Lack, lacking}
+use Rattle.compact.specs.Room.{lacking}
 use Rattle.compact.specs.Sources.{IsOfGeneration, IsPut, IsSealing, LeavesRefused}
-use Rattle.compact.proofs.Telling.{Tells, store_tells, tells_same}
+use Rattle.compact.proofs.Telling.{store_tells, tells_same}
 
 -- ---- what lacks room
 

@@ -1,18 +1,18 @@
 -- The store that is read, from its opening to the end, and both stores then.
-use Rattle.std.proofs.Common.{◌≡◌, ◌≤◌, inl, inr, ℕ, ◌+◌, List, Option, Some, Result, Ok, Err, refl, sym, ◌∙◌, ap, subst}
-use Rattle.std.specs.Prelude.{IsTrue, OnOk, IfErr}
+use Rattle.std.proofs.Common.{◌≡◌, ◌≤◌, inl, ℕ, List, Option, Some, Result, Ok, Err, ◌∙◌, ap}
+use Rattle.std.specs.Prelude.{OnOk, IfErr}
 use Rattle.store_dev.specs.Device.{LeavesOnly, Only}
 use Rattle.store_dev.specs.declared.device.StoreDevice.{Ghosts}
 use Rattle.cache_api.specs.Pairs.{Pair}
 use Rattle.record_log.specs.Frames.{reading, IsSound}
 use Rattle.artifact_store.specs.declared.store.Store.{Store}
-use Rattle.artifact_store.specs.Store.{device_of, state_of, OnlyReadsStore}
+use Rattle.artifact_store.specs.Store.{device_of, OnlyReadsStore}
 use Rattle.artifact_store.proofs.Carry.{then_read}
 use Rattle.compact.specs.declared.error.CompactErr.{CompactErr}
 use Rattle.compact.specs.declared.error.CompactErr.TheVariants.{From, To, NoRoom, LastGeneration, Failed, OutOfMemory}
 use Rattle.compact.specs.declared.kept.Kept.{Kept}
 use Rattle.compact.specs.Current.{generation_in}
-use Rattle.compact.specs.Left.{ReadsAs, StillRests, Rests, IsUnsealed, IsEither, IsAfter}
+use Rattle.compact.specs.Left.{ReadsAs, StillRests, IsUnsealed, IsEither, IsAfter}
 use Rattle.compact.specs.Sources.{IsSource, LeavesRefused}
 use Rattle.compact.proofs.Seeking.{whole_read}
 use Rattle.compact.proofs.Stepping.{unsealed_same}

@@ -1,15 +1,15 @@
 -- A spare store from step to step.
-use Rattle.std.proofs.Common.{◌≡◌, ◌<◌, ◌⊎◌, inl, inr, ⊎_elim, ℕ, ◌+◌, ◌^◌, List, [], ◌∷◌, ◌++◌, length, Ok, refl, sym, ◌∙◌, ap, subst}
+use Rattle.std.proofs.Common.{◌≡◌, ◌<◌, inl, inr, ℕ, ◌^◌, List, [], ◌∷◌, ◌++◌, Ok, sym, ◌∙◌, ap, subst}
 use Rattle.store_dev.specs.Device.{Only, LeavesOnly}
-use Rattle.store_dev.specs.Moments.{leaves_more, leaves_then}
+use Rattle.store_dev.specs.Moments.{leaves_then}
 use Rattle.record_log.specs.Kinds.{Entry, generation_of}
 use Rattle.record_log.specs.Frames.{reading, frames_of, IsSound, IsOpenedAs, IsBeforeOrAfter, ReadsAsOneOf, ReadsAsOneOrNone}
 use Rattle.pair_frames.specs.Pairs.{pairs_in}
 use Rattle.compact.specs.Current.{generation_in, pairs_held}
-use Rattle.compact.specs.Left.{ReadsAs, IsUnsealed, IsStoreOf}
+use Rattle.compact.specs.Left.{ReadsAs, IsUnsealed}
 use Rattle.compact.specs.Room.{generation_frame}
 use Rattle.compact.specs.Sources.{IsSealing}
-use Rattle.compact.proofs.Telling.{Tells, tells_frames, tells_same, tells_itself, store_is, sound_same, frames_same, generation_sealed, pairs_sealed, opened_reads}
+use Rattle.compact.proofs.Telling.{Tells, tells_frames, store_is, sound_same, frames_same, generation_sealed, pairs_sealed, opened_reads}
 
 -- ---- what one of the images stands for, where there is one alone
 

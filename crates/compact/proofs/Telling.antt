@@ -1,7 +1,6 @@
 -- What the bytes of a store tell.
-use Rattle.std.proofs.Common.{◌≡◌, ◌≤◌, ◌<◌, ◌⊎◌, inl, inr, ℕ, ◌+◌, ◌^◌, Bool, true, false, cond, List, [], ◌∷◌, ◌++◌, length, Option, Some, None, Result, Ok, Err, refl, sym, ◌∙◌, ap, subst, arith}
+use Rattle.std.proofs.Common.{◌≡◌, ◌<◌, inl, inr, ℕ, ◌^◌, Bool, true, false, cond, List, [], ◌∷◌, ◌++◌, length, Option, Some, None, Result, Ok, Err, refl, sym, ◌∙◌, ap, arith}
 use Rattle.std.specs.Prelude.{◌==◌}
-use Rattle.std.specs.Int.{w64, to_le_bytes}
 use Rattle.std.proofs.lemmas.Bool.{eqb-true, cases_lt}
 use Rattle.std.proofs.lemmas.Nat.{from_le_bytes-to_le_bytes_8}
 use Rattle.cache_api.specs.Pairs.{Pair}
@@ -13,7 +12,7 @@ use Rattle.pair_frames.specs.Joins.{pairs_in-none}
 use Rattle.artifact_store.specs.Pairs.{stands_for, told_as}
 use Rattle.artifact_store.specs.Laws.{told_is, told_stands, stands_is, frames_are}
 use Rattle.compact.specs.Current.{generation_in, pairs_held}
-use Rattle.compact.specs.Left.{IsStoreOf, IsUnsealed, ReadsAs}
+use Rattle.compact.specs.Left.{IsStoreOf}
 use Rattle.compact.specs.Room.{generation_frame}
 
 -- ---- from what they stand for to their frames

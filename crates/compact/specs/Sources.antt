@@ -1,5 +1,5 @@
 -- The store that is read, and the one that is written, over calls.
-use Rattle.std.specs.Prelude.{◌≡◌, ◌⊎◌, ◌<◌, ◌+◌, ◌++◌, ℕ, Bool, IsTrue, List, [], drop, Result, Ok, Err, Some, Option}
+use Rattle.std.specs.Prelude.{◌≡◌, ◌⊎◌, ◌++◌, ℕ, IsTrue, List, [], drop, Result, Ok, Err, Some}
 use Rattle.rel_path.specs.Causes.{Counts}
 use Rattle.store_dev.specs.Device.{LeavesOnly}
 use Rattle.store_dev.specs.declared.device.StoreDevice.{Ghosts}
@@ -8,7 +8,7 @@ use Rattle.record_log.specs.Kinds.{Entry}
 use Rattle.record_log.specs.Frames.{frames_of}
 use Rattle.record_log.specs.declared.error.Unopened.{Unopened}
 use Rattle.artifact_store.specs.declared.store.Store.{Store}
-use Rattle.artifact_store.specs.Store.{device_of, state_of, count_in}
+use Rattle.artifact_store.specs.Store.{device_of, state_of}
 use Rattle.compact.specs.declared.error.CompactErr.{CompactErr}
 use Rattle.compact.specs.declared.error.CompactErr.TheVariants.{From, To, NoRoom, LastGeneration, Failed, OutOfMemory}
 use Rattle.compact.specs.Answers.{IsStoreFault, is_fault}

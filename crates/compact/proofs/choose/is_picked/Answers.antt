@@ -1,11 +1,11 @@
-use Rattle.std.proofs.Common.{◌≡◌, ◌≢◌, ◌≤◌, ◌<◌, ◌+◌, ℕ, List, [], Bool, true, false, length, get_or, Some, None, refl, sym, ◌∙◌, ap, subst, arith}
+use Rattle.std.proofs.Common.{◌≡◌, ◌<◌, ◌+◌, ℕ, [], true, false, length, get_or, refl, sym, ◌∙◌, ap, subst, arith}
 use Rattle.std.specs.Prelude.{bytes_eq, IfSome}
 use Rattle.std.specs.Option.{option_map_or}
 use Rattle.sha2.specs.Sha256.{sha256}
 use Rattle.artifact_store.specs.Store.{state_of}
 use Rattle.artifact_store.proofs.Carry.{reads_both}
 use Rattle.compact.proofs.Keys.{key_at, IsApart, IsLeft, IsNextBelow, left_first, left_next, next_below, next_inside, next_falls, there, key_found, key_missing, same_key, other_key, compared}
-use Rattle.compact.proofs.Seeking.{IsSeeking, reads_none, pairs_read}
+use Rattle.compact.proofs.Seeking.{reads_none, pairs_read}
 use Rattle.compact.proofs.choose.is_picked.Goals as goal
 
 pub loop-next-init : goal.loop-next-init

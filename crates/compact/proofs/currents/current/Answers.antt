@@ -1,5 +1,5 @@
-use Rattle.std.proofs.Common.{◌≡◌, ◌∙◌}
-use Rattle.compact.specs.Current.{newer_of, generation_in}
+use Rattle.std.proofs.Common.{◌∙◌}
+use Rattle.compact.specs.Current.{newer_of}
 use Rattle.compact.proofs.Faulting.{first_sound, opened_generation}
 use Rattle.compact.proofs.currents.current.Goals as goal
 

@@ -1,10 +1,9 @@
-use Rattle.std.proofs.Common.{◌≡◌, ℕ, Option, None, get_or, arith}
+use Rattle.std.proofs.Common.{◌≡◌, None, get_or, arith}
 use Rattle.cache_api.specs.Cache.{ample}
 use Rattle.cache_api.specs.Memory.{capped}
 use Rattle.cache_api.specs.Reading.{artifact_in}
 use Rattle.pair_frames.specs.Laws.{AreTexts}
 use Rattle.artifact_store.specs.Store.{state_of}
-use Rattle.compact.specs.declared.held.Held.{Held}
 use Rattle.compact.specs.Picks.{pair_of, held_pair}
 use Rattle.compact.proofs.Batching.{batch_push, batch_skip, if_none, if_some}
 use Rattle.compact.proofs.fill.batch_of.Goals as goal

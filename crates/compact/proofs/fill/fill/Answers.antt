@@ -1,7 +1,6 @@
-use Rattle.std.proofs.Common.{◌-◌, take, drop, length, arith}
+use Rattle.std.proofs.Common.{◌-◌, take, drop, length}
 use Rattle.std.proofs.lemmas.Result.{err_from_is_err_and}
 use Rattle.artifact_store.specs.Store.{state_of, frames_of, device_of}
-use Rattle.compact.specs.Picks.{pairs_at}
 use Rattle.compact.proofs.Seeking.{pairs_read}
 use Rattle.compact.proofs.Filling.{puts_none}
 use Rattle.compact.proofs.Parts.{filling_first, filling_next, filling_pairs, filling_room, filling_lacks, behind_is, useful_behind}

@@ -1,11 +1,10 @@
-use Rattle.std.proofs.Common.{◌≡◌, ◌≤◌, ℕ, List, [], ◌∷◌, ◌++◌, take, drop, length, get_or, true, refl, sym, ◌∙◌, ap, subst, arith, take-append-drop}
+use Rattle.std.proofs.Common.{◌≡◌, ◌≤◌, ℕ, List, [], ◌∷◌, ◌++◌, take, drop, get_or, sym, ◌∙◌, ap, subst, take-append-drop}
 use Rattle.std.specs.Prelude.{sum_by}
 use Rattle.std.proofs.lemmas.Result.{err_from_is_err_and}
 use Rattle.cache_api.specs.Cache.{ample}
 use Rattle.cache_api.specs.Pairs.{Pair}
 use Rattle.artifact_store.specs.Store.{state_of, frames_of, device_of}
-use Rattle.compact.specs.Chosen.{is_useful}
-use Rattle.compact.specs.Picks.{AreUseful, pair_of, pairs_at, held_pairs}
+use Rattle.compact.specs.Picks.{pair_of, pairs_at, held_pairs}
 use Rattle.compact.specs.Room.{AllFit}
 use Rattle.compact.proofs.Fitting.{ample_fits}
 use Rattle.compact.proofs.Seeking.{pairs_read}

@@ -1,14 +1,14 @@
-use Rattle.std.proofs.Common.{◌≡◌, ℕ, List, [], Option, Ok, Err, sym, subst}
-use Rattle.std.specs.Prelude.{IfOk, IfErr}
+use Rattle.std.proofs.Common.{List, [], Option, subst}
+use Rattle.std.specs.Prelude.{IfOk}
 use Rattle.std.proofs.lemmas.Result.{err_from_is_err_and, IfErr-weaker}
 use Rattle.cache_api.specs.Pairs.{Pair}
 use Rattle.record_log.specs.Frames.{frames_of}
 use Rattle.artifact_store.specs.Store.{state_of}
 use Rattle.compact.specs.Answers.{IsNoRoomWhere}
-use Rattle.compact.specs.Current.{generation_in, pairs_held}
+use Rattle.compact.specs.Current.{generation_in}
 use Rattle.compact.specs.Left.{ReadsAs, RestsAs, IsUnsealed}
 use Rattle.compact.specs.Picks.{pairs_at}
-use Rattle.compact.specs.Room.{Lack, lacking}
+use Rattle.compact.specs.Room.{Lack}
 use Rattle.compact.specs.Sources.{answered, handed, LeavesRefused}
 use Rattle.compact.proofs.Telling.{store_tells}
 use Rattle.compact.proofs.Renewing.{step_lacks, step_put, refused_by, refused_more, unsealed_zero, unsealed_filled, renewing_two, renewing_more, renewing_three}

@@ -1,8 +1,8 @@
-use Rattle.std.proofs.Common.{◌≡◌, ◌<◌, ◌^◌, ℕ, List, [], ◌∷◌, ◌++◌, length, Ok, refl, sym, ◌∙◌, ap, subst, arith}
+use Rattle.std.proofs.Common.{◌≡◌, ℕ, List, [], ◌∷◌, ◌++◌, length, Ok, refl, sym, ◌∙◌, ap, subst, arith}
 use Rattle.store_dev.specs.Device.{LeavesOnly}
 use Rattle.record_log.specs.Kinds.{Entry, entry, blobs}
 use Rattle.record_log.specs.Forms.{form_5}
-use Rattle.record_log.specs.Frames.{reading, frames_of}
+use Rattle.record_log.specs.Frames.{frames_of}
 use Rattle.compact.specs.Current.{pairs_held}
 use Rattle.compact.specs.Left.{RestsAs}
 use Rattle.compact.specs.Room.{generation_frame}
