@@ -1,5 +1,6 @@
 -- When two stores are answered what.
-use Rattle.std.specs.Prelude.{◌≡◌, ◌⊎◌, ◌<◌, ◌≤◌, ◌^◌, ◌-◌, ℕ, Bool, true, false, MatchBool, List, Option, Some, None, Result, Ok, Err}
+use Rattle.std.specs.Prelude.{◌≡◌, ◌⊎◌, ◌<◌, ◌≤◌, ◌^◌, ◌-◌, ℕ, Bool, true, false, MatchBool, List}
+use Rattle.std.specs.Prelude.{Option, Some, None, Result, Ok, Err}
 use Rattle.rel_path.specs.Causes.{Rose}
 use Rattle.cache_api.specs.declared.error.CacheErr.{CacheErr}
 use Rattle.cache_api.specs.declared.error.CacheErr.TheVariants as cache
@@ -12,7 +13,8 @@ use Rattle.artifact_store.specs.Answers.{IsFaultOf}
 use Rattle.compact.specs.declared.error.CurrentErr.{CurrentErr}
 use Rattle.compact.specs.declared.error.CurrentErr.TheVariants as two
 use Rattle.compact.specs.declared.error.CompactErr.{CompactErr}
-use Rattle.compact.specs.declared.error.CompactErr.TheVariants.{From, To, NoRoom, LastGeneration, Failed, OutOfMemory}
+use Rattle.compact.specs.declared.error.CompactErr.TheVariants.{From, To, NoRoom, LastGeneration}
+use Rattle.compact.specs.declared.error.CompactErr.TheVariants.{Failed, OutOfMemory}
 use Rattle.compact.specs.declared.kept.Kept.{Kept}
 use Rattle.compact.specs.Room.{Lack}
 
@@ -62,7 +64,8 @@ IsCurrentErr (two.First fault) = IsStoreFault fault
 IsCurrentErr (two.Spare fault) = IsStoreFault fault
 IsCurrentErr _ = Unit {0}
 
--- the first store is refused as the reading of its bytes says, and the spare only behind one that is sound
+-- the first store is refused as the reading of its bytes says, and the spare only behind one
+-- that is sound
 abbrev pub IsFirstFault : CurrentErr → List ℕ → Type 0
 IsFirstFault (two.First fault) bytes = IsFaultOf fault (reading bytes)
 IsFirstFault (two.Spare fault) bytes = IsSound bytes

@@ -22,4 +22,5 @@ IsChain Good last (pairs ∷ later) =
 
 -- Where the first list is empty, all have good pairs alone.
 abbrev pub ChainLaw : (Pair → Type 0) → Type 0
-ChainLaw Good = (chain : List (List Pair)) → IsChain Good [] chain → All (λ pairs. All Good pairs) chain
+ChainLaw Good = (chain : List (List Pair)) → IsChain Good [] chain
+    → All (λ pairs. All Good pairs) chain

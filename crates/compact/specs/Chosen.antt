@@ -1,5 +1,6 @@
 -- The pairs that compaction keeps.
-use Rattle.std.specs.Prelude.{ℕ, ◌-◌, Bool, if◌then◌else◌, is_some, List, [], ◌∷◌, length, drop, filter, bytes_eq, Option, Some, None}
+use Rattle.std.specs.Prelude.{ℕ, ◌-◌, Bool, if◌then◌else◌, is_some, List, [], ◌∷◌, length, drop}
+use Rattle.std.specs.Prelude.{filter, bytes_eq, Option, Some, None}
 use Rattle.std.specs.List.{list_any}
 use Rattle.cache_api.specs.Pairs.{Pair}
 use Rattle.cache_api.specs.Reading.{artifact_in}

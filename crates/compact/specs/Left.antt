@@ -26,7 +26,8 @@ pub record IsUnsealed (was : ℕ) (bytes : List ℕ) : Type 0 where
   pub sound : IsSound bytes
   pub generation : (generation_in bytes ≡ was) ⊎ (generation_in bytes ≡ 0)
 
--- those of a spare store while it is renewed: it has the generation that it had or none, or the new one and these pairs
+-- those of a spare store while it is renewed: it has the generation that it had or none, or the
+-- new one and these pairs
 abbrev pub IsRenewing : ℕ → ℕ → List Pair → List ℕ → Type 0
 IsRenewing was generation pairs bytes = IsUnsealed was bytes ⊎ IsStoreOf generation pairs bytes
 
@@ -55,8 +56,8 @@ pub record RestsAs {S : Type 0} (G : Ghosts S) (generation : ℕ) (pairs : List 
   pub rests : Rests G device
   pub is : IsStoreOf generation pairs (G.content device)
 
--- What the opening of a device leaves, whatever is answered: each image since then has the frames of one that there was,
--- and the bytes stay, but at most nine may become an empty store.
+-- What the opening of a device leaves, whatever is answered: each image since then has the frames
+-- of one that there was, and the bytes stay, but at most nine may become an empty store.
 pub record IsReread {S : Type 0} (G : Ghosts S) (old new : S) : Type 0 where
   pub images : LeavesOnly G.moment G.images_since old new (ReadsAsOneOf (G.images old))
   pub same : 9 < length (G.content old) → G.content new ≡ G.content old

@@ -1,5 +1,6 @@
 -- The room that compaction needs.
-use Rattle.std.specs.Prelude.{ℕ, ◌-◌, ◌≤◌, if◌then◌else◌, nat_le, List, [], ◌∷◌, ◌++◌, Option, Some, None}
+use Rattle.std.specs.Prelude.{ℕ, ◌-◌, ◌≤◌, if◌then◌else◌, nat_le, List, [], ◌∷◌, ◌++◌, Option}
+use Rattle.std.specs.Prelude.{Some, None}
 use Rattle.std.specs.Int.{w64, to_le_bytes}
 use Rattle.rel_path.specs.Limits.{store_limit}
 use Rattle.cache_api.specs.Memory.{capped}

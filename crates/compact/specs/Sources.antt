@@ -10,7 +10,8 @@ use Rattle.record_log.specs.declared.error.Unopened.{Unopened}
 use Rattle.artifact_store.specs.declared.store.Store.{Store}
 use Rattle.artifact_store.specs.Store.{device_of, state_of}
 use Rattle.compact.specs.declared.error.CompactErr.{CompactErr}
-use Rattle.compact.specs.declared.error.CompactErr.TheVariants.{From, To, NoRoom, LastGeneration, Failed, OutOfMemory}
+use Rattle.compact.specs.declared.error.CompactErr.TheVariants.{From, To, NoRoom, LastGeneration}
+use Rattle.compact.specs.declared.error.CompactErr.TheVariants.{Failed, OutOfMemory}
 use Rattle.compact.specs.Answers.{IsStoreFault, is_fault}
 use Rattle.compact.specs.Room.{lacking}
 use Rattle.compact.specs.Current.{generation_in, pairs_held}
@@ -115,7 +116,8 @@ IsPutInPart (Err (NoRoom n f)) fs pairs gs = (generation : ℕ) (rest : List Pai
 IsPutInPart (Err _) fs pairs gs = Unit {0}
 
 -- the same of the frames of an empty store, where the device is handed on
-abbrev pub IsStepPut : {P : Type 0} (G : Ghosts P) → Result P (Unopened P CompactErr) → List Pair → Type 0
+abbrev pub IsStepPut : {P : Type 0} (G : Ghosts P) → Result P (Unopened P CompactErr) → List Pair
+    → Type 0
 IsStepPut G (Ok to) pairs = IsPut {T = Unit {0}} (Ok tt) [] pairs (frames_of (G.content to))
 IsStepPut G (Err unopened) pairs = IsPut {T = Unit {0}} (Err unopened.fault) [] pairs []
 

@@ -1,5 +1,6 @@
 // Which pairs of a store are kept.
-ghost use Rattle.std.specs.Prelude.{◌≡◌, ◌<◌, ◌≤◌, ◌+◌, [], length, bytes_eq, All, IsTrue, IfOk, IfErr, OnOk};
+ghost use Rattle.std.specs.Prelude.{◌≡◌, ◌<◌, ◌≤◌, ◌+◌, [], length, bytes_eq, All, IsTrue, IfOk};
+ghost use Rattle.std.specs.Prelude.{IfErr, OnOk};
 ghost use Rattle.rel_path.specs.Causes.{Counts};
 ghost use Rattle.cache_api.specs.Cache.{is_fault, IsFindErr};
 ghost use Rattle.artifact_store.specs.Store.{state_of, count_in, OnlyReadsStore};
@@ -67,7 +68,8 @@ fn pick_all<S: StoreDevice>(
     Ok(())
 }
 
-/// Picks the pair with that number, if its value is an artifact and no pair that was picked has its key.
+/// Picks the pair with that number, if its value is an artifact and no pair that was picked has
+/// its key.
 fn pick<S: StoreDevice>(
     alloc: Global,
     from: &mut Store<S>,
@@ -100,7 +102,8 @@ fn pick<S: StoreDevice>(
     Ok(())
 }
 
-/// Whether a pair that was picked has that key. Of those with its fingerprint the keys are compared whole.
+/// Whether a pair that was picked has that key. Of those with its fingerprint the keys are
+/// compared whole.
 fn is_picked<S: StoreDevice>(
     alloc: Global,
     from: &mut Store<S>,

@@ -1,7 +1,8 @@
 // Which of two stores is current.
 ghost use Rattle.std.specs.Prelude.{◌≡◌, IfOk, IfErr, OnOk};
 ghost use Rattle.compact.specs.Current.{current_of, newer_of};
-ghost use Rattle.compact.specs.Answers.{CountsBoth, is_current_fault, IsCurrentErr, IsFirstFault, IsSpareFault};
+ghost use Rattle.compact.specs.Answers.{CountsBoth, is_current_fault, IsCurrentErr, IsFirstFault};
+ghost use Rattle.compact.specs.Answers.{IsSpareFault};
 ghost use Rattle.compact.specs.Left.{IsReread, StillRests};
 
 use crate::faults::{first_err, open_err, spare_err};
@@ -10,8 +11,8 @@ use record_log::{Log, Unopened};
 use std::alloc::Global;
 use store_dev::StoreDevice;
 
-/// Which of two stores is current: the one with the greater generation, and the first where they are equal. The first is
-/// opened before the spare, and both are handed back.
+/// Which of two stores is current: the one with the greater generation, and the first where they
+/// are equal. The first is opened before the spare, and both are handed back.
 pub fn current<S: StoreDevice, P: StoreDevice>(
     alloc: Global,
     store: S,

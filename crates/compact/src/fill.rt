@@ -1,5 +1,6 @@
 // Putting pairs of one store into another.
-ghost use Rattle.std.specs.Prelude.{false, ◌≡◌, ◌≤◌, ◌<◌, ◌∷◌, ◌++◌, [], take, length, map, sum_by, All, IsTrue, IfOk, IfErr, OnOk};
+ghost use Rattle.std.specs.Prelude.{false, ◌≡◌, ◌≤◌, ◌<◌, ◌∷◌, ◌++◌, [], take, length, map};
+ghost use Rattle.std.specs.Prelude.{sum_by, All, IsTrue, IfOk, IfErr, OnOk};
 ghost use Rattle.rel_path.specs.Causes.{Counts};
 ghost use Rattle.codes.specs.Codes.{Each};
 ghost use Rattle.cache_api.specs.Cache.{is_fault as is_find_fault, IsFindErr, ample};
@@ -94,7 +95,8 @@ fn put_some<S: StoreDevice, P: StoreDevice>(
     Ok(batch.taken)
 }
 
-/// The first of the pairs with these numbers, as many as certainly have room together and are few enough for a batch.
+/// The first of the pairs with these numbers, as many as certainly have room together and are
+/// few enough for a batch.
 fn batch_of<S: StoreDevice>(
     alloc: Global,
     from: &mut Store<S>,

@@ -1,5 +1,6 @@
 // A pair in memory.
-ghost use Rattle.std.specs.Prelude.{◌≡◌, ◌<◌, ◌≤◌, None, length, IsTrue, IfOk, IfErr, IfSome, IfNone, OnOk};
+ghost use Rattle.std.specs.Prelude.{◌≡◌, ◌<◌, ◌≤◌, None, length, IsTrue, IfOk, IfErr, IfSome};
+ghost use Rattle.std.specs.Prelude.{IfNone, OnOk};
 ghost use Rattle.rel_path.specs.Causes.{Counts};
 ghost use Rattle.codes.specs.Codes.{AreBytes};
 ghost use Rattle.cache_api.specs.Artifacts.{artifact_text, artifact as parts};

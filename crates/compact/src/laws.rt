@@ -7,8 +7,8 @@ pub trait PairRule {
     ghost good: { Pair → Type 0 };
 }
 
-/// All stores of a chain of runs and compactions that began with an empty store have good pairs alone, where each run adds
-/// none but good ones.
+/// All stores of a chain of runs and compactions that began with an empty store have good pairs
+/// alone, where each run adds none but good ones.
 pub fn chain_law<R: PairRule>()
     ensures { ChainLaw R.good }
 {}

@@ -3,10 +3,14 @@ ghost use Rattle.std.specs.Prelude.{◌≡◌, ◌+◌, [], length, List, ℕ, E
 ghost use Rattle.store_dev.specs.Device.{LeavesOnly};
 ghost use Rattle.artifact_store.specs.Store.{state_of, OnlyReadsStore};
 ghost use Rattle.compact.specs.declared.side.Side.{Side};
-ghost use Rattle.compact.specs.Answers.{CountsBoth, is_fault, IsCompactErr, IsNotFrom, IsNotTo, IsLastWhere, IsNoRoomWhere};
+ghost use Rattle.compact.specs.Answers.{CountsBoth, is_fault, IsCompactErr, IsNotFrom, IsNotTo};
+ghost use Rattle.compact.specs.Answers.{IsLastWhere, IsNoRoomWhere};
 ghost use Rattle.compact.specs.Chosen.{chosen};
-ghost use Rattle.compact.specs.Current.{generation_in, pairs_held, IsCurrent, IsCurrentOn, pairs_by};
-ghost use Rattle.compact.specs.Left.{ReadsAs, Rests, StillRests, RestsAs, IsUnsealed, IsRenewing, chosen_in, next_generation, IsCountOf, IsCountIn, IsEither, IsAfter};
+ghost use Rattle.compact.specs.Current.{generation_in, pairs_held, IsCurrent, IsCurrentOn};
+ghost use Rattle.compact.specs.Current.{pairs_by};
+ghost use Rattle.compact.specs.Left.{ReadsAs, Rests, StillRests, RestsAs, IsUnsealed, IsRenewing};
+ghost use Rattle.compact.specs.Left.{chosen_in, next_generation, IsCountOf, IsCountIn, IsEither};
+ghost use Rattle.compact.specs.Left.{IsAfter};
 ghost use Rattle.compact.specs.Room.{lacking};
 ghost use Rattle.compact.specs.Sources.{IsRenewErr, LeavesRefused};
 
@@ -19,8 +23,9 @@ use record_log::Unopened;
 use std::alloc::Global;
 use store_dev::StoreDevice;
 
-/// Writes the pairs worth keeping into a spare store, the last so many of them or all, and makes it the current one. The
-/// store that is read has to be the current one of the two. Both devices are handed back.
+/// Writes the pairs worth keeping into a spare store, the last so many of them or all, and makes
+/// it the current one. The store that is read has to be the current one of the two. Both devices
+/// are handed back.
 pub fn compact<S: StoreDevice, P: StoreDevice>(
     alloc: Global,
     from: S,
@@ -44,8 +49,9 @@ pub fn compact<S: StoreDevice, P: StoreDevice>(
         (IsRenewing (generation_in (P.content to)) (next_generation (S.content from))
         (chosen_in (S.content from) keep)) }
 
-    // At every moment, for each image of the one with each image of the other, in the order in which the store that is
-    // read was current: the current one has the pairs that there were, or those that are worth keeping.
+    // At every moment, for each image of the one with each image of the other, in the order in
+    // which the store that is read was current: the current one has the pairs that there were, or
+    // those that are worth keeping.
     ensures moments { S.tells → P.tells → (side : Side)
         → IsCurrentOn side (S.content from) (P.content to) → (f t : List ℕ)
         → S.images_since result.1 (S.moment from) f → P.images_since result.2 (P.moment to) t

@@ -9,7 +9,8 @@ ghost use Rattle.compact.specs.Current.{generation_in, pairs_held};
 ghost use Rattle.compact.specs.Left.{ReadsAs, Rests, RestsAs, IsUnsealed, IsRenewing};
 ghost use Rattle.compact.specs.Picks.{AreUseful, pairs_at};
 ghost use Rattle.compact.specs.Room.{lacking};
-ghost use Rattle.compact.specs.Sources.{handed, answered, IsOfGeneration, IsSealing, IsStepPut, IsClearErr, IsToErr, LeavesRefused};
+ghost use Rattle.compact.specs.Sources.{handed, answered, IsOfGeneration, IsSealing, IsStepPut};
+ghost use Rattle.compact.specs.Sources.{IsClearErr, IsToErr, LeavesRefused};
 
 use crate::CompactErr;
 use crate::faults::{append_err, open_err, reset_err, to_err};
