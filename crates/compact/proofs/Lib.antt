@@ -14,3 +14,4 @@ pub mod Parts
 pub mod Refilling
 pub mod Renewing
 pub mod Sourcing
+pub mod Orders

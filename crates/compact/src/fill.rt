@@ -1,5 +1,5 @@
 // Putting pairs of one store into another.
-ghost use Rattle.std.specs.Prelude.{false, ◌≡◌, ◌≤◌, ◌<◌, ◌∷◌, ◌++◌, [], take, length, map};
+ghost use Rattle.std.specs.Prelude.{◌≡◌, ◌↔◌, ◌≤◌, ◌<◌, ◌∷◌, ◌++◌, [], take, length, map};
 ghost use Rattle.std.specs.Prelude.{sum_by, All, IsTrue, IfOk, IfErr, OnOk};
 ghost use Rattle.rel_path.specs.Causes.{Counts};
 ghost use Rattle.codes.specs.Codes.{Each};
@@ -205,8 +205,8 @@ fn put_fitting<P: StoreDevice>(
 {
     let pairs = new_pairs(alloc, held)?;
     let puts = to.put_all(alloc, pairs.as_slice())?;
-    let full = any_full(puts.as_slice());
-    if full {
+    let stored = are_stored(puts.as_slice());
+    if !stored {
         // A device that tells nothing may have lost its room.
         return Err(CompactErr::NoRoom {
             need: u64::MAX,
@@ -230,9 +230,9 @@ fn new_pairs(alloc: Global, held: &[Held]) -> Result<Vec<NewPair>, AllocError>
     Ok(pairs)
 }
 
-/// Whether there was no room for one of them.
-fn any_full(puts: &[Put]) -> bool
-    ensures { All (λ put. put ≡ Put.Stored) puts.now → result ≡ false }
+/// Whether there was room for all of them.
+fn are_stored(puts: &[Put]) -> bool
+    ensures { IsTrue result ↔ All (λ put. put ≡ Put.Stored) puts.now }
 {
-    puts.iter().any(|put| *put == Put::Full)
+    puts.iter().all(|put| *put == Put::Stored)
 }

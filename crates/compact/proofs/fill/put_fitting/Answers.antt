@@ -20,14 +20,14 @@ returns-in_err-puts-clause-puts g c =
     let news = new_pairs c.as_slice.result.now in
     puts_put to c.put_all.new.self (cache.chosen news (stores to news)) c.put_all.ensures.keeps.base c.put_all.ensures.left
 
-pub returns-then-full-clause-puts : goal.returns-then-full-clause-puts
-returns-then-full-clause-puts g c =
+pub returns-then-not-stored-clause-puts : goal.returns-then-not-stored-clause-puts
+returns-then-not-stored-clause-puts g c =
     let to = c.args.to.now in
     let news = new_pairs c.as_slice.result.now in
     puts_put to c.put_all.new.self (cache.chosen news (stores to news)) c.put_all.ensures.keeps.base c.put_all.ensures.left
 
-pub returns-then-full-clause-room : goal.returns-then-full-clause-room
-returns-then-full-clause-room g c told =
+pub returns-then-not-stored-clause-room : goal.returns-then-not-stored-clause-room
+returns-then-not-stored-clause-room g c told =
     let to = c.args.to.now in
     let pairs = held_pairs c.args.held.now in
     let few = g.met.P.StoreDevice.few_bytes (device_of to) told in
@@ -36,9 +36,9 @@ returns-then-full-clause-room g c told =
     let puts : c.in_ok-puts.puts ≡ outcomes (state_of to).room (frames_of to) pairs =
     c.in_ok-puts.ensures.outcome told ∙ ap (outcomes (state_of to).room (frames_of to)) (ap new_pairs c.as_slice.ensures.value ∙ c.in_ok-pairs.ensures) in
     let all : All (λ put. put ≡ Stored) c.in_ok-puts.puts = subst (λ l. All (λ put. put ≡ Stored) l) (sym puts) stored in
-    let none = c.any_full-full.ensures (subst (λ l. All (λ put. put ≡ Stored) l) (sym c.as_slice-2.ensures) all) in
-    let some = c.if-full.true in
-    absurd (cc (none, some))
+    let yes = c.are_stored-stored.ensures.1 (subst (λ l. All (λ put. put ≡ Stored) l) (sym c.as_slice-2.ensures) all) in
+    let no = c.if-not-stored.true in
+    absurd (cc (yes, no))
 
 pub returns-clause-puts : goal.returns-clause-puts
 returns-clause-puts g c =
