@@ -1,0 +1,17 @@
+pub mod Choosing
+pub mod Chaining
+pub mod Fitting
+pub mod Telling
+pub mod Moments
+pub mod Keys
+pub mod Faulting
+pub mod Stepping
+pub mod Seeking
+pub mod Picking
+pub mod Filling
+pub mod Batching
+pub mod Parts
+pub mod Refilling
+pub mod Renewing
+pub mod Sourcing
+pub mod Orders

@@ -1,0 +1,8 @@
+// Two stores.
+
+/// Which of two stores.
+#[derive(Clone, Copy, Debug, PartialEq, Eq)]
+pub enum Side {
+    First,
+    Spare,
+}
