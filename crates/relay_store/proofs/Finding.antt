@@ -1,0 +1,48 @@
+-- Look-ups in lists behind one another.
+use Rattle.std.proofs.Common.{◌≡◌, ℕ, List, [], ◌∷◌, ◌++◌, Option, Some, None, refl, sym, ◌∙◌, ap}
+use Rattle.std.proofs.lemmas.List.{append-nil}
+use Rattle.globs.specs.declared.out_set.OutSet.{OutSet}
+use Rattle.cache_api.specs.Artifacts.{Artifact}
+use Rattle.cache_api.specs.Reading.{Reader}
+use Rattle.cache_api.specs.Pairs.{Pair}
+use Rattle.cache_api.specs.Found.{given, or_else, found}
+
+else_none : (a : Option Artifact) → or_else a None ≡ a
+else_none None = refl
+else_none (Some a) = refl
+
+else_else : (a b d : Option Artifact) → or_else (or_else a b) d ≡ or_else a (or_else b d)
+else_else None b d = refl
+else_else (Some a) b d = refl
+
+-- the list that stands last is asked first
+pub found_append : (read : Reader) (key : List ℕ) (outs : OutSet) (p q : List Pair)
+    → found read key outs (p ++ q) ≡ or_else (found read key outs q) (found read key outs p)
+found_append read key outs [] q = sym (else_none (found read key outs q))
+found_append read key outs (x ∷ p) q =
+    ap (λ (o : Option Artifact). or_else o (given read key outs x)) (found_append read key outs p q)
+    ∙ else_else (found read key outs q) (found read key outs p) (given read key outs x)
+
+-- the list that stands last finds it
+pub found_last : (read : Reader) (key : List ℕ) (outs : OutSet) (p q : List Pair) (a : Artifact)
+    → found read key outs q ≡ Some a → found read key outs (p ++ q) ≡ Some a
+found_last read key outs p q a is =
+    found_append read key outs p q
+    ∙ ap (λ (o : Option Artifact). or_else o (found read key outs p)) is
+
+-- where nothing is found in it, the other decides
+pub found_first : (read : Reader) (key : List ℕ) (outs : OutSet) (p q : List Pair)
+    → found read key outs q ≡ None → found read key outs (p ++ q) ≡ found read key outs p
+found_first read key outs p q is =
+    found_append read key outs p q
+    ∙ ap (λ (o : Option Artifact). or_else o (found read key outs p)) is
+
+none_by : (a b : Option Artifact) → or_else a b ≡ None → a ≡ None
+none_by None b e = refl
+none_by (Some a) b e = absurd (cc)
+
+-- nothing is found in the end of a list in which nothing is found
+pub none_behind : (read : Reader) (key : List ℕ) (outs : OutSet) (p q : List Pair)
+    → found read key outs (p ++ q) ≡ None → found read key outs q ≡ None
+none_behind read key outs p q e =
+    none_by (found read key outs q) (found read key outs p) (sym (found_append read key outs p q) ∙ e)

@@ -1,0 +1,4 @@
+pub mod Behind
+mod Finding
+mod Counting
+mod Spaces

@@ -1,0 +1,1 @@
+// Adding pairs.

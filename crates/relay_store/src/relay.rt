@@ -1,0 +1,74 @@
+// A cache over two stores: making it and taking it apart.
+ghost use Rattle.std.specs.Prelude.{IsTrue};
+ghost use Rattle.relay_store.specs.Access.{IsAccessOf};
+ghost use Rattle.relay_store.specs.Agree.{Agree};
+
+use crate::part::Part;
+use artifact_store::Store;
+use store_access::Access;
+use store_dev::StoreDevice;
+
+/// The side of a hit in the local store.
+pub const LOCAL: u8 = 0;
+
+/// The side of a hit in the second store.
+pub const SECOND: u8 = 1;
+
+/// A cache over two stores, of which one may be missing. It keeps both by value.
+///
+/// Its pairs are the first pairs of both stores, those of the store that a look-up asks first standing last, and behind
+/// them what it has put. The local store is asked first where it is put into, and else the second one.
+#[derive(Drop)]
+pub struct Relay<S: StoreDevice, R: StoreDevice> {
+    pub(crate) local: Part<S>,
+    pub(crate) second: Part<R>,
+    pub(crate) access: Access,
+    // How many pairs it has put. Where it may no longer be used, a store may have more.
+    pub(crate) added: u64,
+    // Whether each store that is put into has these and no more.
+    pub(crate) whole: bool,
+    pub ghost serves: { IsAccessOf access local.store second.store },
+    pub ghost agrees: { IsTrue whole → S.tells → R.tells → Agree access added local second },
+}
+
+impl<S: StoreDevice, R: StoreDevice> Relay<S, R> {
+    ghost use Rattle.std.specs.Prelude.{◌≡◌};
+    ghost use Rattle.relay_store.specs.Stores.{state_in};
+    ghost use Rattle.relay_store.specs.Relays.{state_of, stores_of, all_pairs};
+
+    /// A cache over these stores. A store is there exactly where it is read, what is put into is also read, and one at
+    /// least is put into.
+    pub fn new(
+        local: Option<Store<S>>,
+        second: Option<Store<R>>,
+        access: Access,
+    ) -> Relay<S, R>
+        requires access { IsAccessOf access local second }
+        requires local { IsTrue (state_in local).whole }
+        requires second { IsTrue (state_in second).whole }
+        ensures stores { stores_of result ≡ (local, second) }
+        ensures access { (state_of result).base.access ≡ access }
+        ensures whole { IsTrue (state_of result).whole }
+        ensures pairs { S.tells → R.tells
+            → (state_of result).pairs ≡ all_pairs access local second }
+        ensures local_pairs { (told : S.tells)
+            → (state_of result).base.local.first told ≡ (state_in local).pairs }
+        ensures second_pairs { (told : R.tells)
+            → (state_of result).base.second.first told ≡ (state_in second).pairs }
+    {
+        Relay {
+            local: Part::new(local),
+            second: Part::new(second),
+            access,
+            added: 0,
+            whole: true,
+        }
+    }
+
+    /// The stores, as the last call left them.
+    pub fn parts(self) -> (Option<Store<S>>, Option<Store<R>>)
+        ensures { result ≡ stores_of self }
+    {
+        (self.local.store, self.second.store)
+    }
+}
