@@ -1,4 +1,5 @@
-pub mod Behind
 mod Finding
 mod Counting
 mod Spaces
+mod Asked
+mod Relays

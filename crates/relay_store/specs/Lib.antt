@@ -1,8 +1,10 @@
 pub mod Access
 pub mod Stores
-pub mod Parts
 pub mod Behind
-pub mod Agree
 pub mod Puts
+pub mod Parts
+pub mod Agree
 pub mod Relays
+pub mod Calls
+pub mod Fronts
 pub mod Laws

@@ -1,5 +1,5 @@
 -- One of the stores of a relay: the pairs that it had at first, and what it is as a cache.
-use Rattle.std.specs.Prelude.{◌≡◌, ◌≤◌, ℕ, List, ◌++◌, take, drop, length, Option, Result, IfOk, IfErr, OnOk}
+use Rattle.std.specs.Prelude.{◌≡◌, ◌≤◌, ℕ, Bool, true, false, List, [], ◌++◌, take, drop, length, Option, Result, IfOk, IfErr, OnOk}
 use Rattle.rel_path.specs.Causes.{Counts}
 use Rattle.store_dev.specs.declared.device.StoreDevice.{Ghosts}
 use Rattle.cache_api.specs.declared.error.CacheErr.{CacheErr}
@@ -77,27 +77,31 @@ space_of part = record { room = (state_in part.store).room; frames = frames_in p
 
 -- ---- calls
 
--- a call that only reads it, with what it answers
+-- what a call leaves of it that only reads
+pub record IsRead {S : Type 0} {G : Ghosts S} (old new : Part S G) : Type 0 where
+  pub reads : CacheReads G.tells state_of cost_of stands shows moment_of left_of says_of old new
+  pub first : new.first ≡ old.first
+  pub there : is_there new.store ≡ is_there old.store
+
+-- and what such a call answers
 pub record IsAsked {S T : Type 0} {G : Ghosts S} (old new : Part S G) (result : Result T CacheErr)
     : Type 0 where
-  pub reads : CacheReads G.tells state_of cost_of stands shows moment_of left_of says_of old new
+  pub read : IsRead old new
   pub whole : StaysWhole result (state_of old).whole (state_of new).whole
   pub answers : IfErr result IsFindErr
   pub cause : Counts is_fault (state_of old).faults (state_of new).faults result
-  pub first : new.first ≡ old.first
-  pub there : is_there new.store ≡ is_there old.store
 
 -- each of these pairs finds room, one after another
 abbrev pub AllFit : {S : Type 0} {G : Ghosts S} → Part S G → List Pair → Type 0
 AllFit part pairs = stores_in part.store pairs ≡ all_stored pairs
 
 -- what it has more after pairs were put into it, whatever came of that
-pub record HasGrown {S : Type 0} {G : Ghosts S} (old new : Part S G) (pairs : List Pair)
+pub record HasGrown {S : Type 0} {G : Ghosts S} (old new : Part S G) (news : List Pair)
     : Type 0 where
   pub pairs : G.tells
-      → (n : ℕ) × (n ≤ length pairs) × (pairs_of new ≡ pairs_of old ++ take n pairs)
+      → (n : ℕ) × (n ≤ length news) × (pairs_of new ≡ pairs_of old ++ take n news)
   pub left : G.tells → Leaves moment_of left_of old new
-      (λ image. IsFirstPart (pairs_of old) pairs (says_of (base_of old) image))
+      (λ image. IsFirstPart (pairs_of old) news (says_of (base_of old) image))
   pub hits : HitsStay G.tells stands shows old new
   pub keeps : Keeps (state_of old) (state_of new)
   pub first : new.first ≡ old.first
@@ -115,3 +119,17 @@ pub record IsPutInto {S : Type 0} {G : Ghosts S} (old new : Part S G) (pairs : L
   pub whole : StaysWhole result (state_of old).whole (state_of new).whole
   pub answers : IfErr result IsFindErr
   pub cause : Counts is_fault (state_of old).faults (state_of new).faults result
+
+-- those that are given to it
+abbrev pub into : Bool → List Pair → List Pair
+into true pairs = pairs
+into false pairs = []
+
+-- the same where it may be that nothing is put into it
+pub record MayGrow {S : Type 0} {G : Ghosts S} (puts : Bool) (old new : Part S G)
+    (pairs : List Pair) (result : Result Puts CacheErr) : Type 0 where
+  pub grown : HasGrown old new (into puts pairs)
+  pub all : G.tells → OnOk result (pairs_of new ≡ pairs_of old ++ into puts pairs)
+  pub frames : puts ≡ true → G.tells → OnOk result (frames_in new.store ≡ frames_in old.store
+      ++ added (state_of old).room (frames_in old.store) pairs)
+  pub whole : OnOk result ((state_of new).whole ≡ (state_of old).whole)

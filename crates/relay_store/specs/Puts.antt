@@ -36,6 +36,13 @@ puts_in spaces (pair ∷ pairs) =
     if list_all (takes pair) spaces then Stored ∷ puts_in (map (filled pair) spaces) pairs
     else Full ∷ puts_in spaces pairs
 
+-- the spaces behind those that were stored
+abbrev pub spaces_behind : List Space → List Pair → List Space
+spaces_behind spaces [] = spaces
+spaces_behind spaces (pair ∷ pairs) =
+    if list_all (takes pair) spaces then spaces_behind (map (filled pair) spaces) pairs
+    else spaces_behind spaces pairs
+
 -- all of them
 abbrev pub all_stored : List Pair → List Put
 all_stored pairs = map (λ pair. Stored) pairs

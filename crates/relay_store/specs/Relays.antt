@@ -9,7 +9,7 @@ use Rattle.cache_api.specs.Moments.{Moment}
 use Rattle.cache_api.specs.Pairs.{Pair}
 use Rattle.artifact_store.specs.declared.store.Store.{Store}
 use Rattle.artifact_store.specs.Pairs.{told_as}
-use Rattle.store_access.specs.declared.Access.{Access}
+use Rattle.cli_words.specs.declared.order.Access.{Access}
 use Rattle.relay_store.specs.declared.part.Part.{Part}
 use Rattle.relay_store.specs.declared.relay.Relay.{Relay}
 use Rattle.relay_store.specs.declared.relay.TheConstants.{LOCAL, SECOND}
@@ -31,8 +31,7 @@ pub record RelayBase (T U : Type 0) : Type 0 where
 -- first stand last
 abbrev pub first_pairs : {T U : Type 0} → RelayBase T U → T → U → List Pair
 first_pairs base t u =
-    if base.access.local_puts then base.second.first u ++ base.local.first t
-    else base.local.first t ++ base.second.first u
+    firsts base.access.local_puts (base.local.first t) (base.second.first u)
 
 -- ---- what a crash leaves
 
@@ -82,11 +81,16 @@ module _ {S R : Type 0} {G : Ghosts S} {H : Ghosts R} where
     second = part.base_of r.second;
   }
 
+  -- what the store that is looked into first has behind its first pairs
+  abbrev pub later_of : Relay S R G H → List Pair
+  later_of r = later r.access.local_puts (part.more_of r.local) (part.more_of r.second)
+
   -- The first pairs of both stores and as many behind them as were counted; where it may be used, these
   -- are all. It may be used where its stores may and they have the same.
   abbrev pub state_of : Relay S R G H → CacheState (RelayBase G.tells H.tells)
   state_of r = record {
-    pairs = firsts r.access r.local r.second ++ take r.added (later r.access r.local r.second);
+    pairs = firsts r.access.local_puts (part.first_of r.local) (part.first_of r.second)
+        ++ take r.added (later_of r);
     whole = r.whole && ((state_in r.local.store).whole && (state_in r.second.store).whole);
     room = room_by r.access.local_puts r.access.second_puts
         (state_in r.local.store).room (state_in r.second.store).room;
@@ -142,5 +146,4 @@ module _ {S R : Type 0} {G : Ghosts S} {H : Ghosts R} where
   -- the pairs of both, those of the store that is looked into first standing last
   abbrev pub all_pairs : Access → Option (Store S G) → Option (Store R H) → List Pair
   all_pairs access local second =
-      if access.local_puts then (state_in second).pairs ++ (state_in local).pairs
-      else (state_in local).pairs ++ (state_in second).pairs
+      firsts access.local_puts (state_in local).pairs (state_in second).pairs

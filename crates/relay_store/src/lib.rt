@@ -1,7 +1,7 @@
 //! A cache over two stores, a local one and a second one.
 //!
 //! [`Relay`] is a [`Cache`](cache_api::Cache) over two [`Store`](artifact_store::Store)s, of which one may be missing. An
-//! [`Access`](store_access::Access) says which of them it reads and which it puts into. A look-up asks the store first
+//! [`Access`](cli_words::Access) says which of them it reads and which it puts into. A look-up asks the store first
 //! whose pairs stand last, then the other one, and [`Hit::side`](cache_api::Hit) says which has the hit: 0 the local one,
 //! 1 the second one. What is found in the second store is not copied. A pair is put into each store that is put into, the
 //! second one first, or into none where one of them has no room for it.
@@ -28,5 +28,6 @@ mod cache;
 mod part;
 mod put;
 mod relay;
+mod room;
 
 pub use relay::{LOCAL, Relay, SECOND};

@@ -18,7 +18,7 @@ pub struct Part<S: StoreDevice> {
 }
 
 impl<S: StoreDevice> Part<S> {
-    ghost use Rattle.std.specs.Prelude.{[], ◌+◌, ◌<◌, true, false, IfOk, IfSome, OnOk};
+    ghost use Rattle.std.specs.Prelude.{◌∷◌, [], ◌+◌, ◌^◌, ◌<◌, true, false, IfOk, IfSome, OnOk};
     ghost use Rattle.codes.specs.Views.{found_as};
     ghost use Rattle.cache_api.specs.Cache.{ample};
     ghost use Rattle.cache_api.specs.Found.{found};
@@ -52,7 +52,8 @@ impl<S: StoreDevice> Part<S> {
 
     /// How many bytes more its frames may take.
     pub(crate) fn free(&self) -> u64
-        ensures { result ≡ (state_of self.now).room }
+        ensures free { result ≡ (state_of self.now).room }
+        ensures small { result < 2 ^ 63 }
     {
         match &self.store {
             Some(store) => store.free(),
@@ -150,6 +151,8 @@ impl<S: StoreDevice> Part<S> {
         // Also where the device tells no bytes.
         ensures full { IfOk result (λ fits. fits ≡ false
             → (state_of self.new).room < ample (new_pair pair.entry)) }
+        ensures fit { S.tells → IfOk result (λ fits. fits ≡ true
+            → AllFit self.new (new_pair pair.entry ∷ [])) }
         ensures same { S.tells → space_of self.new ≡ space_of self.old }
         ensures asked { IsAsked self.old self.new result }
     {

@@ -5,7 +5,7 @@ ghost use Rattle.relay_store.specs.Agree.{Agree};
 
 use crate::part::Part;
 use artifact_store::Store;
-use store_access::Access;
+use cli_words::Access;
 use store_dev::StoreDevice;
 
 /// The side of a hit in the local store.
