@@ -1,6 +1,6 @@
 // The file of a store, with real files.
 use crate::system::{enter, leave};
-use os_edge::OsStore;
+use os_edge::{OsStore, STORE_PATH};
 use std::alloc::Global;
 use std::fs;
 use std::os::unix::fs::symlink;
@@ -36,7 +36,7 @@ fn fails(alloc: Global, store: &mut OsStore<&HostRuntime>) -> bool {
 fn written_and_read(rt: HostRuntime) -> Result<(), Fail> {
     let alloc = rt.alloc();
     let folder = enter(&rt, "store")?;
-    let mut store = OsStore::new(&rt);
+    let mut store = OsStore::at(&rt, STORE_PATH);
     assert!(rt; !fs::exists(&rt, ".turbo")?);
     assert_eq!(rt; store.len()?, 0);
     assert!(rt; fs::read(&rt, PATH)?.is_empty());
@@ -44,7 +44,7 @@ fn written_and_read(rt: HostRuntime) -> Result<(), Fail> {
     assert!(rt; fs::read(&rt, PATH)?.as_slice() == b"abcdEFGH".as_slice());
     assert!(rt; is_read(&mut store, 4, *b"EFGH")?);
     drop(store);
-    let mut second = OsStore::new(&rt);
+    let mut second = OsStore::at(&rt, STORE_PATH);
     assert!(rt; is_read(&mut second, 2, *b"cdEF")?);
     assert_eq!(rt; second.len()?, 8);
     leave(&rt, folder)
@@ -56,7 +56,7 @@ fn kept_whole(rt: HostRuntime) -> Result<(), Fail> {
     let folder = enter(&rt, "kept")?;
     fs::create_dir_all(&rt, ".turbo")?;
     fs::write(&rt, PATH, b"12345")?;
-    let mut store = OsStore::new(&rt);
+    let mut store = OsStore::at(&rt, STORE_PATH);
     assert!(rt; is_read(&mut store, 3, *b"45__") == Err(StoreErr::Failed));
     assert!(rt; is_read(&mut store, 1, *b"2345")?);
     assert_eq!(rt; store.len()?, 5);
@@ -70,7 +70,7 @@ fn kept_whole(rt: HostRuntime) -> Result<(), Fail> {
 fn places_that_fail(rt: HostRuntime) -> Result<(), Fail> {
     let alloc = rt.alloc();
     let folder = enter(&rt, "places")?;
-    let mut store = OsStore::new(&rt);
+    let mut store = OsStore::at(&rt, STORE_PATH);
     fs::create_dir_all(&rt, PATH)?;
     assert!(rt; fails(alloc, &mut store));
     fs::remove_dir_all(&rt, ".turbo")?;
@@ -89,7 +89,7 @@ fn a_device_in_its_place(rt: HostRuntime) -> Result<(), Fail> {
     let folder = enter(&rt, "device")?;
     fs::create_dir_all(&rt, ".turbo")?;
     symlink(&rt, "/dev/null", PATH)?;
-    assert!(rt; fails(rt.alloc(), &mut OsStore::new(&rt)));
+    assert!(rt; fails(rt.alloc(), &mut OsStore::at(&rt, STORE_PATH)));
     leave(&rt, folder)
 }
 
@@ -100,7 +100,7 @@ fn synced_by_the_system(rt: HostRuntime) -> Result<(), Fail> {
     let folder = enter(&rt, "synced")?;
     fs::create_dir_all(&rt, ".turbo")?;
     symlink(&rt, "/proc/self/comm", PATH)?;
-    let mut store = OsStore::new(&rt);
+    let mut store = OsStore::at(&rt, STORE_PATH);
     assert_eq!(rt; store.len()?, 0);
     assert!(rt; store.sync() == Err(StoreErr::Failed));
     leave(&rt, folder)
@@ -112,9 +112,9 @@ fn synced_by_the_system(rt: HostRuntime) -> Result<(), Fail> {
 fn held_by_another(rt: HostRuntime) -> Result<(), Fail> {
     let alloc = rt.alloc();
     let folder = enter(&rt, "held")?;
-    let mut first = OsStore::new(&rt);
+    let mut first = OsStore::at(&rt, STORE_PATH);
     write_twice(alloc, &mut first)?;
-    let mut second = OsStore::new(&rt);
+    let mut second = OsStore::at(&rt, STORE_PATH);
     assert_eq!(rt; second.len()?, 0);
     second.write_at(alloc, 2, b"xy")?;
     assert!(rt; is_read(&mut second, 0, *b"\0\0xy")?);
@@ -123,6 +123,18 @@ fn held_by_another(rt: HostRuntime) -> Result<(), Fail> {
     second.sync()?;
     drop(first);
     assert!(rt; fs::read(&rt, PATH)?.as_slice() == b"abcdEFGH".as_slice());
-    assert!(rt; is_read(&mut OsStore::new(&rt), 4, *b"EFGH")?);
+    assert!(rt; is_read(&mut OsStore::at(&rt, STORE_PATH), 4, *b"EFGH")?);
+    leave(&rt, folder)
+}
+
+// The folders on the way to the file are made. The empty path is no file.
+#[test]
+fn at_any_path(rt: HostRuntime) -> Result<(), Fail> {
+    let alloc = rt.alloc();
+    let folder = enter(&rt, "anywhere")?;
+    write_twice(alloc, &mut OsStore::at(&rt, "caches/all/store.turb"))?;
+    let mut second = OsStore::locked(&rt, "caches/all/store.turb")?;
+    assert!(rt; is_read(&mut second, 4, *b"EFGH")?);
+    assert!(rt; fails(alloc, &mut OsStore::at(&rt, "")));
     leave(&rt, folder)
 }

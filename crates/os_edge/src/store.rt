@@ -14,63 +14,98 @@ use std::{fs, io};
 use store_dev::{StoreDevice, StoreErr};
 use tree_dev::count_fault;
 
-const FOLDER: &str = ".turbo";
-
 /// The path of the store, from the current folder.
 pub const STORE_PATH: &str = ".turbo/store.turb";
+
+const SEPARATOR: &str = "/";
+
+const CURRENT_FOLDER: &str = ".";
 
 // From here on a store is worth a word.
 const LARGE: u64 = 1 << 30;
 
-/// The file `.turbo/store.turb` of the current folder, with a count of its faults. The first call of
-/// [`StoreDevice`] opens it and locks it for good, and makes it and its folder where they are not there. While
-/// another run holds the lock, an empty store in memory stands in its place, which nobody keeps. It tells no
-/// bytes. Its count of faults stands still at the last value of a u64.
+/// The file of a store, with a count of its faults. The first call of [`StoreDevice`] opens it and
+/// locks it for good, and makes it and its folders where they are not there. While another run holds
+/// the lock, an empty store in memory stands in its place, which nobody keeps. It tells no bytes. Its
+/// count of faults stands still at the last value of a u64.
 #[derive(Drop)]
-pub struct OsStore<R> {
+pub struct OsStore<'p, R> {
     rt: R,
+    path: &'p str,
     backing: Option<Backing>,
     faults: u64,
 }
 
-impl<R: Files<File = File> + Eprint + AllocGlobal> OsStore<R> {
-    /// The device, which touches no file yet. It takes no memory.
-    pub fn new(rt: R) -> OsStore<R>
-        ensures { ⟦<OsStore<R> as StoreDevice>⟧.store_faults result ≡ 0 }
+impl<'p, R: Files<File = File> + Eprint + AllocGlobal> OsStore<'p, R> {
+    /// The file at the path, from the current folder or, with a `/` in front, from the root of the
+    /// file system. It touches no file yet and takes no memory. The empty path is no file: each call
+    /// fails then.
+    pub fn at(rt: R, path: &'p str) -> OsStore<'p, R>
+        ensures { ⟦<OsStore<'p, R> as StoreDevice>⟧.store_faults result ≡ 0 }
     {
         OsStore {
             rt,
+            path,
             backing: None,
             faults: 0,
         }
+    }
+
+    /// The same, opened and locked: it waits for the lock while another process holds it. The lock
+    /// is given back as the device is dropped.
+    pub fn locked(rt: R, path: &'p str) -> Result<OsStore<'p, R>, StoreErr>
+        ensures fresh { IfOk result
+            (λ store. ⟦<OsStore<'p, R> as StoreDevice>⟧.store_faults store ≡ 0) }
+        ensures only { OnlyFails result }
+    {
+        match told_of(&rt, path, "locked", lock(&rt, path)) {
+            Ok(file) => Ok(OsStore {
+                rt,
+                path,
+                backing: Some(Backing::File(file)),
+                faults: 0,
+            }),
+            Err(_) => Err(StoreErr::Failed),
+        }
+    }
+
+    /// How many of its calls have failed.
+    pub fn faults(&self) -> u64
+        ensures { result ≡ ⟦<OsStore<'p, R> as StoreDevice>⟧.store_faults self.now }
+    {
+        self.faults
     }
 }
 
 // The store, opened once. After an opening that failed it is opened anew.
 fn opened<'a, R: Files<File = File> + Eprint + AllocGlobal>(
     rt: &R,
+    path: &str,
     backing: &'a mut Option<Backing>,
 ) -> io::Result<&'a mut Backing> {
     match backing {
         Some(backing) => Ok(backing),
-        None => Ok(backing.insert(told_of(rt, STORE_PATH, "opened", backing_of(rt))?)),
+        None => Ok(backing.insert(told_of(rt, path, "opened", backing_of(rt, path))?)),
     }
 }
 
 // The file, or an empty store in memory while another run holds it.
-fn backing_of<R: Files<File = File> + Eprint + AllocGlobal>(rt: &R) -> io::Result<Backing> {
-    let file = open(rt)?;
+fn backing_of<R: Files<File = File> + Eprint + AllocGlobal>(
+    rt: &R,
+    path: &str,
+) -> io::Result<Backing> {
+    let file = open(rt, path)?;
     if is_ours(file.try_lock())? {
-        warn_of_size(rt, &file)?;
+        warn_of_size(rt, path, &file)?;
         return Ok(Backing::File(file));
     }
-    let _ = eprintln!(rt; "turbo: another run holds {STORE_PATH}, so this one keeps no results");
+    let _ = eprintln!(rt; "turbo: another run holds {path}, so this one keeps no results");
     Ok(Backing::Memory(Vec::new(rt.alloc())))
 }
 
-fn warn_of_size(rt: &impl Eprint, file: &File) -> io::Result<()> {
+fn warn_of_size(rt: &impl Eprint, path: &str, file: &File) -> io::Result<()> {
     if file.metadata()?.len() > LARGE {
-        let _ = eprintln!(rt; "turbo: {STORE_PATH} has passed a gibibyte, and may be deleted");
+        let _ = eprintln!(rt; "turbo: {path} has passed a gibibyte, and may be deleted");
     }
     Ok(())
 }
@@ -89,15 +124,31 @@ fn options() -> OpenOptions
     options
 }
 
+// The folder in which the file or folder at the path stands.
+fn folder_of(path: &str) -> &str {
+    match path.rsplit_once(SEPARATOR) {
+        Some((folder, _)) if folder.is_empty() => SEPARATOR,
+        Some((folder, _)) => folder,
+        None => CURRENT_FOLDER,
+    }
+}
+
 // A link is followed. What is no regular file is an error: a disk would be written over.
-fn open<R: Files<File = File>>(rt: &R) -> io::Result<File> {
-    fs::create_dir_all(rt, FOLDER)?;
-    let file = options().open(rt, STORE_PATH)?;
+fn open<R: Files<File = File>>(rt: &R, path: &str) -> io::Result<File> {
+    let folder = folder_of(path);
+    fs::create_dir_all(rt, folder)?;
+    let file = options().open(rt, path)?;
     if !file.metadata()?.is_file() {
         return Err(io::Error::from(ErrorKind::InvalidInput));
     }
-    sync_folder(rt, FOLDER)?;
-    sync_folder(rt, ".")?;
+    sync_folder(rt, folder)?;
+    sync_folder(rt, folder_of(folder))?;
+    Ok(file)
+}
+
+fn lock<R: Files<File = File>>(rt: &R, path: &str) -> io::Result<File> {
+    let file = open(rt, path)?;
+    file.lock()?;
     Ok(file)
 }
 
@@ -124,7 +175,7 @@ fn counted<T>(faults: &mut u64, outcome: io::Result<T>) -> Result<T, StoreErr>
     }
 }
 
-impl<R: Files<File = File> + Eprint + AllocGlobal> StoreDevice for OsStore<R> {
+impl<'p, R: Files<File = File> + Eprint + AllocGlobal> StoreDevice for OsStore<'p, R> {
     ghost tells = { ⊥ };
 
     ghost content = { λ _. [] };
@@ -149,17 +200,17 @@ impl<R: Files<File = File> + Eprint + AllocGlobal> StoreDevice for OsStore<R> {
 
     fn len(&mut self) -> Result<u64, StoreErr> {
         let rt = &self.rt;
-        let store = opened(rt, &mut self.backing);
-        let outcome = store.and_then(|store| told_of(rt, STORE_PATH, "measured", store.len()));
+        let store = opened(rt, self.path, &mut self.backing);
+        let outcome = store.and_then(|store| told_of(rt, self.path, "measured", store.len()));
         counted(&mut self.faults, outcome)
     }
 
     fn read_at(&mut self, at: u64, buf: &mut [u8]) -> Result<(), StoreErr> {
         let rt = &self.rt;
-        let store = opened(rt, &mut self.backing);
+        let store = opened(rt, self.path, &mut self.backing);
         let outcome = store.and_then(|store| told_of(
             rt,
-            STORE_PATH,
+            self.path,
             "read",
             store.read_at(at, buf),
         ));
@@ -168,10 +219,10 @@ impl<R: Files<File = File> + Eprint + AllocGlobal> StoreDevice for OsStore<R> {
 
     fn write_at(&mut self, _alloc: Global, at: u64, bytes: &[u8]) -> Result<(), StoreErr> {
         let rt = &self.rt;
-        let store = opened(rt, &mut self.backing);
+        let store = opened(rt, self.path, &mut self.backing);
         let outcome = store.and_then(|store| told_of(
             rt,
-            STORE_PATH,
+            self.path,
             "written",
             store.write_at(at, bytes),
         ));
@@ -180,8 +231,8 @@ impl<R: Files<File = File> + Eprint + AllocGlobal> StoreDevice for OsStore<R> {
 
     fn sync(&mut self) -> Result<(), StoreErr> {
         let rt = &self.rt;
-        let store = opened(rt, &mut self.backing);
-        let outcome = store.and_then(|store| told_of(rt, STORE_PATH, "synced", store.sync()));
+        let store = opened(rt, self.path, &mut self.backing);
+        let outcome = store.and_then(|store| told_of(rt, self.path, "synced", store.sync()));
         counted(&mut self.faults, outcome)
     }
 }

@@ -4,7 +4,8 @@ ghost use Rattle.spawn_dev.specs.Spawn.{IsIdle};
 use crate::advice::{advise, say_out_of_memory};
 use crate::status::exit_status;
 use os_edge::{
-    OsSink, OsStore, OsWorld, WordErr, environment, open_streams, warn_of_unread_config, words,
+    OsSink, OsStore, OsWorld, STORE_PATH, WordErr, environment, open_streams,
+    warn_of_unread_config, words,
 };
 use rel_path::Text;
 use spawn_dev::Spawner;
@@ -65,7 +66,7 @@ where
 {
     let mut world = OsWorld::new(rt, alloc);
     let mut out = OsSink::new(rt);
-    let store = OsStore::new(rt);
+    let store = OsStore::at(rt, STORE_PATH);
     let (answer, status) = ended(alloc, words, env, &mut world, store, &mut out);
     advise(rt, words, &answer);
     status
