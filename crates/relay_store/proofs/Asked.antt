@@ -1,6 +1,6 @@
 -- From a store that is there to the part of a relay that keeps it.
-use Rattle.std.proofs.Common.{◌≡◌, ℕ, ◌+◌, ◌≤◌, List, [], ◌++◌, length, take, Option, Some, None, Ok, Err, refl, sym, ◌∙◌, ap, subst, arith}
-use Rattle.std.specs.Prelude.{Result, IfOk, IfErr, OnOk}
+use Rattle.std.proofs.Common.{◌≡◌, Bool, true, false, ℕ, ◌+◌, ◌≤◌, List, [], ◌++◌, length, take, Option, Some, None, Ok, Err, refl, sym, ◌∙◌, ap, subst, arith}
+use Rattle.std.specs.Prelude.{Result, IsTrue, IfOk, IfErr, OnOk}
 use Rattle.std.proofs.lemmas.List.{append-nil, take_all, take-append-le}
 use Rattle.rel_path.specs.Causes.{Counts}
 use Rattle.store_dev.specs.Device.{LeavesBetween}
@@ -10,7 +10,9 @@ use Rattle.cache_api.specs.declared.error.CacheErr.TheVariants.{Full, Failed, Ou
 use Rattle.cache_api.specs.declared.hit.Hit.{Hit}
 use Rattle.cache_api.specs.declared.puts.Puts.{Puts}
 use Rattle.cache_api.specs.Cache.{CacheReads, HitsStay, Keeps, ArePut, AllAfter, StaysWhole, is_fault, IsFindErr}
-use Rattle.cache_api.specs.Moments.{Moment, NoLater, Leaves, leaves_more}
+use Rattle.cache_api.specs.Moments.{Moment, NoLater, Leaves, started}
+use Rattle.cache_api.specs.Calls.{keeps_none, stay_none}
+use Rattle.relay_store.specs.Laws.{OnlyNow, rest_in}
 use Rattle.cache_api.specs.Pairs.{Pair, chosen, IsFirstPart}
 use Rattle.pair_frames.specs.Puts.{added}
 use Rattle.artifact_store.specs.declared.store.Store.{Store}
@@ -20,7 +22,7 @@ use Rattle.relay_store.specs.declared.part.Part.{Part}
 use Rattle.relay_store.specs.Access.{is_there}
 use Rattle.relay_store.specs.Stores.{state_in, frames_in, cost_in, moment_in, images_in, stands_in, shows_in, stores_in}
 use Rattle.relay_store.specs.Puts.{all_stored}
-use Rattle.relay_store.specs.Parts.{state_of, cost_of, stands, shows, moment_of, left_of, says_of, IsAsked, HasGrown, IsPutInto}
+use Rattle.relay_store.specs.Parts.{state_of, cost_of, stands, shows, moment_of, left_of, says_of, IsAsked, HasGrown, IsPutInto, into, MayGrow}
 use Rattle.relay_store.proofs.Spaces.{chosen_all}
 
 grown_by : (result : Result Puts CacheErr) (before news now : List Pair)
@@ -35,6 +37,10 @@ all_by : (result : Result Puts CacheErr) (before news now : List Pair) → AllAf
     → OnOk result (now ≡ before ++ news)
 all_by (Ok puts) before news now after = after
 all_by (Err e) before news now after = tt
+
+pub on_ok : {T E P : Type 0} (r : Result T E) → P → OnOk r P
+on_ok (Ok x) p = p
+on_ok (Err e) p = tt
 
 module _ {S : Type 0} {G : Ghosts S} where
   abbrev clock : Option (Store S G) → Moment
@@ -216,3 +222,44 @@ module _ {S : Type 0} {G : Ghosts S} where
       put_part old new news result first
       (subst (λ (o : Option (Store S G)). PutIn o new.store news result) (sym was)
       (subst (λ (p : Option (Store S G)). PutIn (Some a) p news result) (sym now) some))
+
+-- ---- a store that is not put into, or not yet
+
+module _ {S : Type 0} {G : Ghosts S} (only : OnlyNow G) (p : Part S G) (whole : IsTrue (state_of p).whole) where
+  pub grown_none : (news : List Pair) → HasGrown p p news
+  grown_none news = record {
+    pairs = λ told. (0, omega arith, sym (append-nil (state_in p.store).pairs));
+    left = λ told. started moment_of left_of p
+        (λ image. IsFirstPart (state_in p.store).pairs news (told_as (state_in p.store).base image))
+        (λ image left. (0, omega arith, rest_in only p.store told whole image left
+        ∙ ap (λ (l : List Pair). Some l) (sym (append-nil (state_in p.store).pairs))));
+    hits = stay_none G.tells stands shows p;
+    keeps = keeps_none (state_of p);
+    first = refl;
+    there = refl;
+  }
+
+  none_all : (puts : Bool) (news : List Pair) (result : Result Puts CacheErr) → OnOk result (puts ≡ false)
+      → OnOk result ((state_in p.store).pairs ≡ (state_in p.store).pairs ++ into puts news)
+  none_all true news (Ok v) other = absurd (cc)
+  none_all false news (Ok v) other = sym (append-nil (state_in p.store).pairs)
+  none_all puts news (Err e) other = tt
+
+  none_frames : (puts : Bool) (news : List Pair) (result : Result Puts CacheErr) → OnOk result (puts ≡ false)
+      → puts ≡ true → OnOk result (frames_in p.store ≡ frames_in p.store
+      ++ added (state_of p).room (frames_in p.store) news)
+  none_frames puts news (Ok v) other is = absurd (cc)
+  none_frames puts news (Err e) other is = tt
+
+  none_whole : (result : Result Puts CacheErr) → OnOk result ((state_of p).whole ≡ (state_of p).whole)
+  none_whole (Ok v) = refl
+  none_whole (Err e) = tt
+
+  pub may_none : (puts : Bool) (news : List Pair) (result : Result Puts CacheErr) → OnOk result (puts ≡ false)
+      → MayGrow puts p p news result
+  may_none puts news result other = record {
+    grown = grown_none (into puts news);
+    all = λ told. none_all puts news result other;
+    frames = λ is told. none_frames puts news result other is;
+    whole = none_whole result;
+  }

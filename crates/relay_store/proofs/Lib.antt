@@ -2,4 +2,6 @@ mod Finding
 mod Counting
 mod Spaces
 mod Asked
+mod Fitting
 mod Relays
+mod Putting

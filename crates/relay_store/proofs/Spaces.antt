@@ -1,5 +1,5 @@
 -- The room that is wanting where a pair is not put.
-use Rattle.std.proofs.Common.{◌≡◌, ℕ, ◌+◌, ◌-◌, ◌<◌, ◌≤◌, suc, Bool, true, false, cond, List, [], ◌∷◌, ◌++◌, length, map, refl, sym, ◌∙◌, ap, subst, arith}
+use Rattle.std.proofs.Common.{◌≡◌, ℕ, ◌+◌, ◌-◌, ◌<◌, ◌≤◌, suc, Bool, true, false, cond, List, [], ◌∷◌, ◌++◌, length, map, refl, sym, ◌∙◌, ap, subst, arith, length-append}
 use Rattle.std.specs.Prelude.{◌&&◌, nat_le, sum_by}
 use Rattle.std.specs.List.{list_all}
 use Rattle.std.proofs.lemmas.Bool.{and_parts, and_from, le-leb, leb-true, leb-false}
@@ -9,7 +9,7 @@ use Rattle.cache_api.specs.declared.puts.Put.TheVariants.{Stored, Full}
 use Rattle.cache_api.specs.Pairs.{Pair, chosen}
 use Rattle.cache_api.specs.Cache.{ample, ArePut, AreToPut, NoRoomFor, NoRoomBehind}
 use Rattle.pair_frames.proofs.Sizes.{sum_cons}
-use Rattle.relay_store.specs.Puts.{Space, need, takes, filled, puts_in, all_stored}
+use Rattle.relay_store.specs.Puts.{Space, need, takes, filled, puts_in, spaces_behind, all_stored}
 
 -- ---- one space that does not take a pair
 
@@ -66,7 +66,7 @@ even_by : (b : Bool) (x y : List Put) (n : ℕ) → length x ≡ n → length y 
 even_by true x y n e f = omega (arith, e)
 even_by false x y n e f = omega (arith, f)
 
-even : (pairs : List Pair) (spaces : List Space) → length (puts_in spaces pairs) ≡ length pairs
+pub even : (pairs : List Pair) (spaces : List Space) → length (puts_in spaces pairs) ≡ length pairs
 even [] spaces = refl
 even (pair ∷ pairs) spaces =
     even_by (list_all (takes pair) spaces) _ _ (length pairs)
@@ -154,3 +154,70 @@ pub are_put_less : (room less : ℕ) (pairs : List Pair) (puts : List Put) → l
     → ArePut room pairs puts → ArePut less pairs puts
 are_put_less room less pairs puts le x =
     record { even = x.even; full = less_room puts pairs room less le x.full }
+
+-- ---- pairs behind pairs
+
+puts_by : (b : Bool) (spaces : List Space) (pair : Pair) (xs ys : List Pair)
+    → ((others : List Space) → puts_in others (xs ++ ys) ≡ puts_in others xs ++ puts_in (spaces_behind others xs) ys)
+    → cond b (Stored ∷ puts_in (map (filled pair) spaces) (xs ++ ys)) (Full ∷ puts_in spaces (xs ++ ys))
+    ≡ cond b (Stored ∷ puts_in (map (filled pair) spaces) xs) (Full ∷ puts_in spaces xs)
+    ++ puts_in (cond b (spaces_behind (map (filled pair) spaces) xs) (spaces_behind spaces xs)) ys
+puts_by true spaces pair xs ys more = ap (λ (l : List Put). Stored ∷ l) (more (map (filled pair) spaces))
+puts_by false spaces pair xs ys more = ap (λ (l : List Put). Full ∷ l) (more spaces)
+
+pub puts_append : (xs ys : List Pair) (spaces : List Space)
+    → puts_in spaces (xs ++ ys) ≡ puts_in spaces xs ++ puts_in (spaces_behind spaces xs) ys
+puts_append [] ys spaces = refl
+puts_append (pair ∷ xs) ys spaces =
+    puts_by (list_all (takes pair) spaces) spaces pair xs ys (λ others. puts_append xs ys others)
+
+spaces_by : (b : Bool) (spaces : List Space) (pair : Pair) (xs ys : List Pair)
+    → ((others : List Space) → spaces_behind others (xs ++ ys) ≡ spaces_behind (spaces_behind others xs) ys)
+    → cond b (spaces_behind (map (filled pair) spaces) (xs ++ ys)) (spaces_behind spaces (xs ++ ys))
+    ≡ spaces_behind (cond b (spaces_behind (map (filled pair) spaces) xs) (spaces_behind spaces xs)) ys
+spaces_by true spaces pair xs ys more = more (map (filled pair) spaces)
+spaces_by false spaces pair xs ys more = more spaces
+
+pub spaces_append : (xs ys : List Pair) (spaces : List Space)
+    → spaces_behind spaces (xs ++ ys) ≡ spaces_behind (spaces_behind spaces xs) ys
+spaces_append [] ys spaces = refl
+spaces_append (pair ∷ xs) ys spaces =
+    spaces_by (list_all (takes pair) spaces) spaces pair xs ys (λ others. spaces_append xs ys others)
+
+pub chosen_append : (xs ys : List Pair) (p q : List Put) → length p ≡ length xs
+    → chosen (xs ++ ys) (p ++ q) ≡ chosen xs p ++ chosen ys q
+chosen_append [] ys [] q same = refl
+chosen_append [] ys (a ∷ p) q same = absurd (omega (arith, same))
+chosen_append (x ∷ xs) ys [] q same = absurd (omega (arith, same))
+chosen_append (x ∷ xs) ys (Stored ∷ p) q same =
+    ap (λ (l : List Pair). x ∷ l) (chosen_append xs ys p q (omega (arith, same)))
+chosen_append (x ∷ xs) ys (Full ∷ p) q same = chosen_append xs ys p q (omega (arith, same))
+
+none_append : (xs ys : List Pair) (p q : List Put) (room : ℕ) → length p ≡ length xs
+    → NoRoomFor room xs p → NoRoomFor room ys q → NoRoomFor room (xs ++ ys) (p ++ q)
+none_append [] ys [] q room same a b = b
+none_append [] ys (put ∷ p) q room same a b = absurd (omega (arith, same))
+none_append (x ∷ xs) ys [] q room same a b = absurd (omega (arith, same))
+none_append (x ∷ xs) ys (Stored ∷ p) q room same a b = none_append xs ys p q room (omega (arith, same)) a b
+none_append (x ∷ xs) ys (Full ∷ p) q room same a b = (a.0, none_append xs ys p q room (omega (arith, same)) a.1 b)
+
+pub put_append : (xs ys : List Pair) (p q : List Put) (before room : ℕ) → room ≤ before
+    → ArePut before xs p → ArePut room ys q → ArePut room (xs ++ ys) (p ++ q)
+put_append xs ys p q before room le x y =
+    let less = are_put_less before room xs p le x in
+    record {
+      even = omega (arith, length-append p q, length-append xs ys, x.even, y.even);
+      full = none_append xs ys p q room x.even less.full y.full;
+    }
+
+-- ---- one pair
+
+pub one_by : (b : Bool) (spaces : List Space) (pair : Pair) → b ≡ list_all (takes pair) spaces
+    → puts_in spaces (pair ∷ []) ≡ cond b (Stored ∷ []) (Full ∷ [])
+one_by true spaces pair is = ap (λ b. cond b (Stored ∷ []) (Full ∷ [])) (sym is)
+one_by false spaces pair is = ap (λ b. cond b (Stored ∷ []) (Full ∷ [])) (sym is)
+
+pub behind_one : (b : Bool) (spaces : List Space) (pair : Pair) → b ≡ list_all (takes pair) spaces
+    → spaces_behind spaces (pair ∷ []) ≡ cond b (map (filled pair) spaces) spaces
+behind_one true spaces pair is = ap (λ b. cond b (map (filled pair) spaces) spaces) (sym is)
+behind_one false spaces pair is = ap (λ b. cond b (map (filled pair) spaces) spaces) (sym is)

@@ -5,11 +5,11 @@ use Rattle.store_dev.specs.declared.device.StoreDevice.{Ghosts}
 use Rattle.cache_api.specs.declared.error.CacheErr.{CacheErr}
 use Rattle.cache_api.specs.declared.hit.Hit.{Hit}
 use Rattle.cache_api.specs.Artifacts.{Artifact}
-use Rattle.cache_api.specs.Cache.{CacheState, CacheReads, HitsStay, Keeps, ArePut, StaysWhole, is_fault, IsFindErr}
+use Rattle.cache_api.specs.Cache.{CacheState, CacheReads, HitsStay, Keeps, ArePut, StaysWhole, ample, is_fault, IsFindErr}
 use Rattle.cache_api.specs.Moments.{Moment, Leaves}
 use Rattle.cache_api.specs.Pairs.{Pair, IsFirstPart}
 use Rattle.cache_api.specs.declared.puts.Puts.{Puts}
-use Rattle.pair_frames.specs.Puts.{added}
+use Rattle.pair_frames.specs.Puts.{put_size, added}
 use Rattle.artifact_store.specs.Pairs.{told_as}
 use Rattle.relay_store.specs.declared.part.Part.{Part}
 use Rattle.relay_store.specs.Access.{is_there}
@@ -90,6 +90,11 @@ pub record IsAsked {S T : Type 0} {G : Ghosts S} (old new : Part S G) (result : 
   pub whole : StaysWhole result (state_of old).whole (state_of new).whole
   pub answers : IfErr result IsFindErr
   pub cause : Counts is_fault (state_of old).faults (state_of new).faults result
+
+-- the frames of a pair find room
+pub record HasRoom {S : Type 0} {G : Ghosts S} (part : Part S G) (pair : Pair) : Type 0 where
+  pub size : put_size (frames_in part.store) pair ≤ (state_of part).room
+  pub ample : put_size (frames_in part.store) pair ≤ ample pair
 
 -- each of these pairs finds room, one after another
 abbrev pub AllFit : {S : Type 0} {G : Ghosts S} → Part S G → List Pair → Type 0

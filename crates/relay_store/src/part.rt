@@ -18,7 +18,7 @@ pub struct Part<S: StoreDevice> {
 }
 
 impl<S: StoreDevice> Part<S> {
-    ghost use Rattle.std.specs.Prelude.{◌∷◌, [], ◌+◌, ◌^◌, ◌<◌, true, false, IfOk, IfSome, OnOk};
+    ghost use Rattle.std.specs.Prelude.{[], ◌+◌, ◌^◌, ◌<◌, true, false, IfOk, IfSome, OnOk};
     ghost use Rattle.codes.specs.Views.{found_as};
     ghost use Rattle.cache_api.specs.Cache.{ample};
     ghost use Rattle.cache_api.specs.Found.{found};
@@ -28,7 +28,7 @@ impl<S: StoreDevice> Part<S> {
     ghost use Rattle.pair_writer.specs.Putting.{new_pair};
     ghost use Rattle.relay_store.specs.Access.{is_there};
     ghost use Rattle.relay_store.specs.Puts.{takes};
-    ghost use Rattle.relay_store.specs.Parts.{state_of, pairs_of, more_of, cost_of, stands, shows, space_of, IsAsked, AllFit, IsPutInto};
+    ghost use Rattle.relay_store.specs.Parts.{state_of, pairs_of, more_of, cost_of, stands, shows, space_of, IsAsked, HasRoom, AllFit, IsPutInto};
 
     /// Of a store with all the pairs that it has now.
     pub(crate) fn new(store: Option<Store<S>>) -> Part<S>
@@ -152,7 +152,7 @@ impl<S: StoreDevice> Part<S> {
         ensures full { IfOk result (λ fits. fits ≡ false
             → (state_of self.new).room < ample (new_pair pair.entry)) }
         ensures fit { S.tells → IfOk result (λ fits. fits ≡ true
-            → AllFit self.new (new_pair pair.entry ∷ [])) }
+            → HasRoom self.new (new_pair pair.entry)) }
         ensures same { S.tells → space_of self.new ≡ space_of self.old }
         ensures asked { IsAsked self.old self.new result }
     {

@@ -23,6 +23,7 @@ impl<S: StoreDevice, R: StoreDevice> Relay<S, R> {
     ghost use Rattle.cache_api.specs.Pairs.{chosen};
     ghost use Rattle.pair_writer.specs.Putting.{new_pair};
     ghost use Rattle.relay_store.specs.Puts.{takes, spaces_behind};
+    ghost use Rattle.relay_store.specs.Parts.{HasRoom};
     ghost use Rattle.relay_store.specs.Relays.{state_of, spaces, stores};
     ghost use Rattle.relay_store.specs.Calls.{IsPutting};
 
@@ -153,9 +154,9 @@ impl<S: StoreDevice, R: StoreDevice> Relay<S, R> {
             → (state_of self.new).room < ample (new_pair pair.entry)) }
         ensures same { S.tells → R.tells → spaces self.new ≡ spaces self.old }
         ensures local { IfOk result (λ fits. fits ≡ true → self.old.access.local_puts ≡ true
-            → S.tells → AllFit self.new.local (new_pair pair.entry ∷ [])) }
+            → S.tells → HasRoom self.new.local (new_pair pair.entry)) }
         ensures second { IfOk result (λ fits. fits ≡ true → self.old.access.second_puts ≡ true
-            → R.tells → AllFit self.new.second (new_pair pair.entry ∷ [])) }
+            → R.tells → HasRoom self.new.second (new_pair pair.entry)) }
         ensures putting { IsPutting self.old self.new [] result }
     {
         match (self.access.local_puts, self.access.second_puts) {
