@@ -1,13 +1,13 @@
 -- Calls that put pairs, one after another.
 use Rattle.std.proofs.Common.{◌≡◌, ◌⊎◌, inl, inr, ⊎_elim, ℕ, zero, suc, ◌+◌, ◌≤◌, Bool, true, false, List, [], ◌∷◌, ◌++◌, length, take, drop, Option, Some, None, Ok, Err, refl, sym, ◌∙◌, ap, subst, arith, append_assoc, length-append}
-use Rattle.std.specs.Prelude.{◌&&◌, ◌||◌, IsTrue, Result, IfErr, OnOk}
+use Rattle.std.specs.Prelude.{◌&&◌, ◌||◌, IsTrue, Result, IfOk, IfErr, OnOk}
 use Rattle.std.proofs.lemmas.List.{append-nil, take_all, take-append-le, drop-append-le}
 use Rattle.rel_path.specs.Causes.{Counts}
 use Rattle.store_dev.specs.declared.device.StoreDevice.{Ghosts}
 use Rattle.cache_api.specs.declared.error.CacheErr.{CacheErr}
 use Rattle.cache_api.specs.declared.error.CacheErr.TheVariants.{OutOfMemory}
 use Rattle.cache_api.specs.declared.puts.Puts.{Puts}
-use Rattle.cache_api.specs.Cache.{Keeps, HitsStay, is_fault, IsFindErr}
+use Rattle.cache_api.specs.Cache.{Keeps, HitsStay, StaysWhole, is_fault, IsFindErr}
 use Rattle.cache_api.specs.Calls.{stay_none, stay_then, keeps_none, keeps_then}
 use Rattle.cache_api.specs.Moments.{Leaves, started, leaves_more, leaves_then}
 use Rattle.cache_api.specs.Pairs.{Pair, IsFirstPart}
@@ -35,8 +35,10 @@ first_more before x y told (n, le, is) = (
 )
 
 take_both : (x y : List Pair) (n : ℕ) → take (length x + n) (x ++ y) ≡ x ++ take n y
-take_both [] y n = ap (λ k. take k y) (omega arith)
-take_both (p ∷ x) y n = ap (λ k. take k (p ∷ (x ++ y))) (omega arith) ∙ ap (λ (l : List Pair). p ∷ l) (take_both x y n)
+take_both [] y n = let same : 0 + n ≡ n = omega arith in ap (λ (k : ℕ). take k y) same
+take_both (p ∷ x) y n =
+    let same : suc (length x) + n ≡ suc (length x + n) = omega arith in
+    ap (λ (k : ℕ). take k (p ∷ (x ++ y))) same ∙ ap (λ (l : List Pair). p ∷ l) (take_both x y n)
 
 first_then : (before mid x y : List Pair) (told : Option (List Pair)) → mid ≡ before ++ x
     → IsFirstPart mid y told → IsFirstPart before (x ++ y) told
@@ -61,7 +63,7 @@ module _ {S R : Type 0} {G : Ghosts S} {H : Ghosts R} where
   -- ---- one and then another
 
   pub putting_then : {T U : Type 0} (a b d : Relay S R G H) (x y : List Pair) (v : T) (s : Result U CacheErr)
-      → IsPutting a b x (Ok {E = CacheErr} v) → IsPutting b d y s → IsPutting a d (x ++ y) s
+      → IsPutting a b x (Ok v) → IsPutting b d y s → IsPutting a d (x ++ y) s
   putting_then a b d x y v s p q = record {
     pairs = λ told. both_ok s (state_of a).pairs (state_of b).pairs (state_of d).pairs x y (p.pairs told) (q.pairs told);
     grown = λ told.
@@ -100,7 +102,7 @@ module _ {S R : Type 0} {G : Ghosts S} {H : Ghosts R} where
 
   -- after an error there may have been more to put
   pub putting_err : {T U : Type 0} (a b : Relay S R G H) (x y : List Pair) (e : CacheErr)
-      → IsPutting a b x (Err {T = T} e) → IsPutting a b (x ++ y) (Err {T = U} e)
+      → IsPutting {T = T} a b x (Err e) → IsPutting {T = U} a b (x ++ y) (Err e)
   putting_err a b x y e p = record {
     pairs = λ told. tt;
     grown = p.grown;
@@ -114,7 +116,7 @@ module _ {S R : Type 0} {G : Ghosts S} {H : Ghosts R} where
   }
 
   pub putting_ok : {T U : Type 0} (a b : Relay S R G H) (x : List Pair) (v : T) (w : U)
-      → IsPutting a b x (Ok {E = CacheErr} v) → IsPutting a b x (Ok {E = CacheErr} w)
+      → IsPutting a b x (Ok v) → IsPutting a b x (Ok w)
   putting_ok a b x v w p = record {
     pairs = p.pairs;
     grown = p.grown;
@@ -128,7 +130,7 @@ module _ {S R : Type 0} {G : Ghosts S} {H : Ghosts R} where
 
   -- and where memory is wanting behind it
   pub putting_memory : {T U : Type 0} (a b : Relay S R G H) (x y : List Pair) (v : T)
-      → IsPutting a b x (Ok {E = CacheErr} v) → IsPutting a b (x ++ y) (Err {T = U} OutOfMemory)
+      → IsPutting a b x (Ok v) → IsPutting {T = U} a b (x ++ y) (Err OutOfMemory)
   putting_memory a b x y v p = record {
     pairs = λ told. tt;
     grown = p.grown;
@@ -144,7 +146,7 @@ module _ {S R : Type 0} {G : Ghosts S} {H : Ghosts R} where
   -- ---- before the first
 
   pub putting_none : {T : Type 0} (a : Relay S R G H) (v : T) → OnlyNow G → OnlyNow H → IsTrue (state_of a).whole
-      → IsPutting a a [] (Ok {E = CacheErr} v)
+      → IsPutting a a [] (Ok v)
   putting_none a v only also whole = record {
     pairs = λ told. sym (append-nil (state_of a).pairs);
     grown = λ told. ([], sym (append-nil (later_of a)));
@@ -196,11 +198,9 @@ module _ {S R : Type 0} {G : Ghosts S} {H : Ghosts R} where
 
 -- ---- pairs that were put into both
 
-into_first : (b : Bool) (news : List Pair) (n : ℕ) → n ≤ length (into b news)
-    → (m : ℕ) × (m ≤ length news) × (take n (into b news) ≡ take m news)
-into_first true news n le = (n, le, refl)
-into_first false news zero le = (0, omega arith, refl)
-into_first false news (suc n) le = absurd (omega (arith, le))
+take_nil : (n : ℕ) → take {A = Pair} n [] ≡ []
+take_nil zero = refl
+take_nil (suc n) = refl
 
 -- what an image says of a store that had these pairs behind its first ones, and then some more
 says_grown : (puts : Bool) (all first more pairs news : List Pair) (told : Option (List Pair))
@@ -217,16 +217,11 @@ says_grown true all first more pairs news told (n, le, is) none ends noted = (
       noted,
 )
 says_grown false all first more pairs news told (n, le, is) none ends noted =
-    let (m, few, same) = into_first false news n le in
-    let nothing : take n [] ≡ [] = take_nil n in
+    let nothing : take {A = Pair} n [] ≡ [] = take_nil n in
     absurd (noted refl (is
     ∙ ap (λ (l : List Pair). Some ((first ++ l) ++ take n [])) (none refl)
     ∙ ap (λ (l : List Pair). Some ((first ++ []) ++ l)) nothing
     ∙ ap (λ (l : List Pair). Some l) (append-nil (first ++ []) ∙ append-nil first)))
-  where
-    take_nil : (n : ℕ) → take n [] ≡ []
-    take_nil zero = refl
-    take_nil (suc n) = refl
 
 -- ---- results
 
@@ -335,3 +330,35 @@ module _ {S R : Type 0} {G : Ghosts S} {H : Ghosts R} (old new : Relay S R G H) 
       answers = answers;
       cause = cause;
     }
+
+-- ---- calls that only read
+
+pub ok_whole : {T : Type 0} (r : Result T CacheErr) (before now : Bool) → StaysWhole r before now
+    → OnOk r (now ≡ before)
+ok_whole (Ok v) before now is = is
+ok_whole (Err e) before now is = tt
+
+pub counts_ok : {T U : Type 0} (before now : ℕ) (v : T) (w : U)
+    → Counts {T = T} {E = CacheErr} is_fault before now (Ok v) → Counts {T = U} {E = CacheErr} is_fault before now (Ok w)
+counts_ok before now v w c = record { later = c.later; counted = c.counted }
+
+module _ {S R T : Type 0} {G : Ghosts S} {H : Ghosts R} (old new : Relay S R G H) (r : Result T CacheErr) where
+  pub putting_asked : new.access ≡ old.access → new.added ≡ old.added → new.whole ≡ old.whole
+      → IsTrue old.whole → IsRead old.local new.local → IsRead old.second new.second
+      → OnOk r ((state_in new.local.store).whole ≡ (state_in old.local.store).whole)
+      → OnOk r ((state_in new.second.store).whole ≡ (state_in old.second.store).whole)
+      → IfErr r IsFindErr → Counts is_fault (state_of old).faults (state_of new).faults r
+      → IsPutting old new [] r
+  putting_asked access added same whole xl xs l s answers cause =
+      putting_read old new r access added whole xl xs
+      (ok_three r (λ (a : Unit {0}) b c. λ i. same i && (b i && c i)) (ok_unit r) l s) answers cause
+    where
+      ok_unit : (r : Result T CacheErr) → OnOk r (Unit {0})
+      ok_unit (Ok v) = tt
+      ok_unit (Err e) = tt
+
+-- a premise that stands inside
+pub moved_in : {X E : Type 0} (A T Q : Type 0) (r : Result X E) (P : X → Type 0)
+    → (T → IfOk r (λ x. P x → Q)) → IfOk r (λ x. P x → A → T → Q)
+moved_in A T Q (Ok x) P to = λ p a t. to t p
+moved_in A T Q (Err e) P to = tt

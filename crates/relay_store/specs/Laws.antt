@@ -57,14 +57,14 @@ noted_says false all first more told is none noted =
     ∙ ap (λ (l : List Pair). Some l) (append-nil first)))
 
 -- all that stands behind the first pairs of the store that is looked into first
-later_local : (p : Bool) (all local second : List Pair) (count : ℕ)
+pub later_local : (p : Bool) (all local second : List Pair) (count : ℕ)
     → count ≡ length (later p local second) → (p ≡ false → local ≡ [])
     → p ≡ true → all ++ local ≡ all ++ take count (later p local second)
 later_local true all local second count is none puts =
     ap (λ (l : List Pair). all ++ l) (sym (take_all count local (omega (arith, is))))
 later_local false all local second count is none puts = absurd (cc)
 
-later_second : (p q : Bool) (all local second : List Pair) (count : ℕ)
+pub later_second : (p q : Bool) (all local second : List Pair) (count : ℕ)
     → count ≡ length (later p local second) → ((p && q) ≡ true → second ≡ local)
     → q ≡ true → all ++ second ≡ all ++ take count (later p local second)
 later_second true q all local second count is same puts =
