@@ -4,4 +4,6 @@ mod Spaces
 mod Asked
 mod Fitting
 mod Relays
+mod Filled
 mod Putting
+mod Turn

@@ -140,8 +140,8 @@ impl<S: StoreDevice, R: StoreDevice> Relay<S, R> {
         }
         let puts = self.put_fitting(alloc, &[pair])?;
         match puts.as_slice() {
-            [Put::Full] => Ok(Put::Full),
-            _ => Ok(Put::Stored),
+            [put] => Ok(*put),
+            _ => unreachable!(),
         }
     }
 
