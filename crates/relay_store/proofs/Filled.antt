@@ -1,8 +1,9 @@
 -- The spaces of a relay behind a pair that was put.
-use Rattle.std.proofs.Common.{◌≡◌, ℕ, Bool, true, false, cond, List, [], ◌∷◌, ◌++◌, map, Ok, Err, refl, sym, ◌∙◌, ap, subst}
+use Rattle.std.proofs.Common.{◌≡◌, ℕ, ◌≤◌, arith, Bool, true, false, cond, List, [], ◌∷◌, ◌++◌, map, Ok, Err, refl, sym, ◌∙◌, ap, subst}
 use Rattle.std.specs.Prelude.{IsTrue, OnOk}
 use Rattle.std.proofs.lemmas.Bool.{and_parts}
 use Rattle.store_dev.specs.declared.device.StoreDevice.{Ghosts}
+use Rattle.codes.specs.Codes.{Each}
 use Rattle.cache_api.specs.declared.error.CacheErr.{CacheErr}
 use Rattle.cache_api.specs.declared.puts.Put.{Put}
 use Rattle.cache_api.specs.declared.puts.Put.TheVariants.{Stored, Full}
@@ -17,7 +18,7 @@ use Rattle.relay_store.specs.Stores.{frames_in}
 use Rattle.relay_store.specs.Parts as part
 use Rattle.relay_store.specs.Parts.{space_of, HasRoom, AllFit}
 use Rattle.relay_store.specs.Puts.{Space, filled}
-use Rattle.relay_store.specs.Relays.{state_of, spaces}
+use Rattle.relay_store.specs.Relays.{room_by, state_of, spaces}
 use Rattle.relay_store.proofs.Fitting.{fit_one, filled_part}
 
 -- what is put into is there
@@ -47,6 +48,29 @@ chosen_one false pair is = absurd (cc)
 pub stored_one : (b : Bool) → b ≡ true → Stored ∷ [] ≡ cond b (Stored ∷ []) (Full ∷ [])
 stored_one true is = refl
 stored_one false is = absurd (cc)
+
+-- ---- the least room
+
+pub room_local : (p q : Bool) (a b : ℕ) → p ≡ true → room_by p q a b ≤ a
+room_local true true a b is = omega arith
+room_local true false a b is = omega arith
+room_local false q a b is = absurd (cc)
+
+pub room_second : (p q : Bool) (a b : ℕ) → q ≡ true → room_by p q a b ≤ b
+room_second true true a b is = omega arith
+room_second true false a b is = absurd (cc)
+room_second false q a b is = omega arith
+
+each_by : (p q : Bool) (a b : Space) (n : ℕ) → n ≤ room_by p q a.room b.room
+    → Each (λ (space : Space). n ≤ space.room) ((cond p (a ∷ []) []) ++ (cond q (b ∷ []) []))
+each_by true true a b n le = (omega (arith, le), (omega (arith, le), tt))
+each_by true false a b n le = (le, tt)
+each_by false true a b n le = (le, tt)
+each_by false false a b n le = tt
+
+pub each_space : {S R : Type 0} {G : Ghosts S} {H : Ghosts R} (r : Relay S R G H) (n : ℕ)
+    → n ≤ (state_of r).room → Each (λ (space : Space). n ≤ space.room) (spaces r)
+each_space r n le = each_by r.access.local_puts r.access.second_puts (space_of r.local) (space_of r.second) n le
 
 module _ {S R : Type 0} {G : Ghosts S} {H : Ghosts R} (a b : Relay S R G H) (pair : Pair) where
   spaces_are : b.access ≡ a.access

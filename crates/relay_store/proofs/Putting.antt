@@ -1,13 +1,13 @@
 -- Calls that put pairs, one after another.
 use Rattle.std.proofs.Common.{◌≡◌, ◌⊎◌, inl, inr, ⊎_elim, ℕ, zero, suc, ◌+◌, ◌≤◌, Bool, true, false, List, [], ◌∷◌, ◌++◌, length, take, drop, Option, Some, None, Ok, Err, refl, sym, ◌∙◌, ap, subst, arith, append_assoc, length-append}
-use Rattle.std.specs.Prelude.{◌&&◌, ◌||◌, IsTrue, Result, IfOk, IfErr, OnOk}
+use Rattle.std.specs.Prelude.{◌&&◌, ◌||◌, IsTrue, Result, IfOk, IfErr, OnOk, OnErr}
 use Rattle.std.proofs.lemmas.List.{append-nil, take_all, take-append-le, drop-append-le}
 use Rattle.rel_path.specs.Causes.{Counts}
 use Rattle.store_dev.specs.declared.device.StoreDevice.{Ghosts}
 use Rattle.cache_api.specs.declared.error.CacheErr.{CacheErr}
-use Rattle.cache_api.specs.declared.error.CacheErr.TheVariants.{OutOfMemory}
+use Rattle.cache_api.specs.declared.error.CacheErr.TheVariants.{Full, Failed, OutOfMemory}
 use Rattle.cache_api.specs.declared.puts.Puts.{Puts}
-use Rattle.cache_api.specs.Cache.{Keeps, HitsStay, StaysWhole, is_fault, IsFindErr}
+use Rattle.cache_api.specs.Cache.{AllAfter, Keeps, HitsStay, StaysWhole, is_fault, IsFindErr}
 use Rattle.cache_api.specs.Calls.{stay_none, stay_then, keeps_none, keeps_then}
 use Rattle.cache_api.specs.Moments.{Leaves, started, leaves_more, leaves_then}
 use Rattle.cache_api.specs.Pairs.{Pair, IsFirstPart}
@@ -264,13 +264,14 @@ module _ {S R : Type 0} {G : Ghosts S} {H : Ghosts R} (old new : Relay S R G H) 
 
   -- where no more are counted, the pairs are as before
   pub unchanged : {T : Type 0} (added : List Pair) (r : Result T CacheErr) → IsTrue old.whole
-      → new.added ≡ old.added → IsPutting old new added r → G.tells → H.tells
-      → (state_of new).pairs ≡ (state_of old).pairs
-  unchanged added r whole same p t u =
+      → IsPutting old new added r → G.tells → H.tells
+      → firsts new.access.local_puts (first_of new.local) (first_of new.second) ++ take old.added (later_of new)
+      ≡ (state_of old).pairs
+  unchanged added r whole p t u =
       let (more, is) = p.grown (t, u) in
       let few : old.added ≤ length (later_of old) = omega (arith, (old.agrees whole t u).counted) in
-      let later_same : take new.added (later_of new) ≡ take old.added (later_of old) =
-      (λ i. take (same i) (is i)) ∙ take-append-le old.added (later_of old) more few in
+      let later_same : take old.added (later_of new) ≡ take old.added (later_of old) =
+      ap (take old.added) is ∙ take-append-le old.added (later_of old) more few in
       λ i. first_same p.keeps.base t u i ++ later_same i
 
   module _ (news : List Pair) (result : Result Puts CacheErr) (access : new.access ≡ old.access)
@@ -362,3 +363,12 @@ pub moved_in : {X E : Type 0} (A T Q : Type 0) (r : Result X E) (P : X → Type 
     → (T → IfOk r (λ x. P x → Q)) → IfOk r (λ x. P x → A → T → Q)
 moved_in A T Q (Ok x) P to = λ p a t. to t p
 moved_in A T Q (Err e) P to = tt
+
+-- ---- what is there after all
+
+pub all_after : {T : Type 0} (r : Result T CacheErr) (before added now : List Pair)
+    → OnOk r (now ≡ before ++ added) → OnErr r (now ≡ before) → AllAfter r before added now
+all_after (Ok v) before added now is same = is
+all_after (Err Failed) before added now is same = (0, omega arith, same ∙ sym (append-nil before))
+all_after (Err Full) before added now is same = same
+all_after (Err OutOfMemory) before added now is same = same

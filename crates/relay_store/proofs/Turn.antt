@@ -15,7 +15,9 @@ use Rattle.relay_store.specs.declared.relay.Relay.{Relay}
 use Rattle.relay_store.specs.Puts.{Space, puts_in, spaces_behind}
 use Rattle.relay_store.specs.Relays.{state_of, spaces, stores}
 use Rattle.relay_store.specs.Calls.{IsPutting}
-use Rattle.relay_store.proofs.Putting.{putting_then, putting_as, putting_err, putting_ok, putting_memory}
+use Rattle.relay_store.proofs.Putting.{putting_then, putting_as, putting_err, putting_ok, putting_memory, putting_none}
+use Rattle.std.specs.Prelude.{IsTrue}
+use Rattle.relay_store.specs.Laws.{OnlyNow}
 use Rattle.relay_store.proofs.Spaces.{even, puts_append, spaces_append, chosen_append, put_append}
 
 -- what is chosen of pairs and of those behind them
@@ -72,7 +74,7 @@ module _ {S R : Type 0} {G : Ghosts S} {H : Ghosts R} where
     }
 
     -- all that was to be chosen
-    rest : (ys : List Pair) → List Pair
+    abbrev rest : (ys : List Pair) → List Pair
     rest ys = chosen ys (puts_in (spaces_behind (spaces start) (xs ++ x ∷ [])) ys)
 
     all_chosen : (ys : List Pair) → G.tells × H.tells
@@ -100,6 +102,15 @@ module _ {S R : Type 0} {G : Ghosts S} {H : Ghosts R} where
         putting_as start now _ _ (Err OutOfMemory) (all_chosen ys)
         (putting_memory {T = Put} {U = Puts} start now _ (rest ys) put
         (putting_then start mid now (chosen xs p) _ tt (Ok put) so_far.putting putting))
+
+  pub no_turn : (start : Relay S R G H) → OnlyNow G → OnlyNow H → IsTrue (state_of start).whole
+      → InTurn start start [] []
+  no_turn start only also whole = record {
+    putting = putting_none start tt only also whole;
+    answers = λ t u. refl;
+    spaces = λ t u. refl;
+    room = record { even = refl; full = tt };
+  }
 
   pub last_turn : (start now : Relay S R G H) (pairs : List Pair) (puts : Puts) → InTurn start now pairs puts
       → IsPutting {T = Puts} start now (chosen pairs (stores start pairs)) (Ok puts)

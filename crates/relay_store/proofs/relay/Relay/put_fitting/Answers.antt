@@ -19,4 +19,4 @@ returns-in-Err-clause-putting g c =
 pub returns-in-Err-clause-unchanged : goal.returns-in-Err-clause-unchanged
 returns-in-Err-clause-unchanged g c t u =
     let parts = and_parts _ _ c.requires.whole in
-    unchanged c.args.self.now _ (new_pairs c.args.pairs.now) (Err c.in-Err.fault) parts.0 refl (returns-in-Err-clause-putting g c) t u
+    unchanged c.args.self.now _ (new_pairs c.args.pairs.now) (Err c.in-Err.fault) parts.0 (returns-in-Err-clause-putting g c) t u
