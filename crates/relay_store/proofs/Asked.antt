@@ -1,5 +1,5 @@
 -- From a store that is there to the part of a relay that keeps it.
-use Rattle.std.proofs.Common.{◌≡◌, Bool, true, false, ℕ, ◌+◌, ◌≤◌, List, [], ◌++◌, length, take, Option, Some, None, Ok, Err, refl, sym, ◌∙◌, ap, subst, arith}
+use Rattle.std.proofs.Common.{◌≡◌, Bool, true, false, ℕ, ◌≤◌, List, [], ◌++◌, length, take, Option, Some, Ok, Err, refl, sym, ◌∙◌, ap, subst, arith}
 use Rattle.std.specs.Prelude.{Result, IsTrue, IfOk, IfErr, OnOk}
 use Rattle.std.proofs.lemmas.List.{append-nil, take_all, take-append-le}
 use Rattle.rel_path.specs.Causes.{Counts}
@@ -22,7 +22,7 @@ use Rattle.relay_store.specs.declared.part.Part.{Part}
 use Rattle.relay_store.specs.Access.{is_there}
 use Rattle.relay_store.specs.Stores.{state_in, frames_in, cost_in, moment_in, images_in, stands_in, shows_in, stores_in}
 use Rattle.relay_store.specs.Puts.{all_stored}
-use Rattle.relay_store.specs.Parts.{state_of, cost_of, stands, shows, moment_of, left_of, says_of, IsAsked, HasGrown, IsPutInto, into, MayGrow}
+use Rattle.relay_store.specs.Parts.{state_of, stands, shows, moment_of, left_of, IsAsked, HasGrown, IsPutInto, into, MayGrow}
 use Rattle.relay_store.proofs.Spaces.{chosen_all}
 
 grown_by : (result : Result Puts CacheErr) (before news now : List Pair)
@@ -231,8 +231,12 @@ module _ {S : Type 0} {G : Ghosts S} (only : OnlyNow G) (p : Part S G) (whole : 
     pairs = λ told. (0, omega arith, sym (append-nil (state_in p.store).pairs));
     left = λ told. started moment_of left_of p
         (λ image. IsFirstPart (state_in p.store).pairs news (told_as (state_in p.store).base image))
-        (λ image left. (0, omega arith, rest_in only p.store told whole image left
-        ∙ ap (λ (l : List Pair). Some l) (sym (append-nil (state_in p.store).pairs))));
+        (λ image left. (
+          0,
+          omega arith,
+          rest_in only p.store told whole image left
+              ∙ ap (λ (l : List Pair). Some l) (sym (append-nil (state_in p.store).pairs)),
+        ));
     hits = stay_none G.tells stands shows p;
     keeps = keeps_none (state_of p);
     first = refl;

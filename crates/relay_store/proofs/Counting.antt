@@ -1,7 +1,7 @@
 -- The sum of two devices' counts of faults.
-use Rattle.std.proofs.Common.{◌≡◌, ℕ, ◌+◌, ◌-◌, ◌^◌, ◌≤◌, Bool, true, false, refl, sym, ap, subst, arith}
-use Rattle.std.specs.Prelude.{min, MatchBool, Result, Ok, Err}
-use Rattle.rel_path.specs.Causes.{Rose, CountsFaults, Counts}
+use Rattle.std.proofs.Common.{◌≡◌, ℕ, ◌+◌, ◌≤◌, Bool, true, false, sym, ap, subst, arith}
+use Rattle.std.specs.Prelude.{MatchBool, Result, Ok, Err}
+use Rattle.rel_path.specs.Causes.{Rose, Counts}
 
 more_by : (b : Bool) (before now other : ℕ) → before ≤ now
     → MatchBool b (Rose before now) (now ≡ before)

@@ -1,17 +1,13 @@
 -- The spaces of a relay behind a pair that was put.
-use Rattle.std.proofs.Common.{◌≡◌, ℕ, ◌≤◌, arith, Bool, true, false, cond, List, [], ◌∷◌, ◌++◌, map, Ok, Err, refl, sym, ◌∙◌, ap, subst}
-use Rattle.std.specs.Prelude.{IsTrue, OnOk}
+use Rattle.std.proofs.Common.{◌≡◌, ℕ, ◌≤◌, arith, Bool, true, false, cond, [], ◌∷◌, ◌++◌, map, refl, ◌∙◌, ap}
+use Rattle.std.specs.Prelude.{IsTrue}
 use Rattle.std.proofs.lemmas.Bool.{and_parts}
 use Rattle.store_dev.specs.declared.device.StoreDevice.{Ghosts}
 use Rattle.codes.specs.Codes.{Each}
-use Rattle.cache_api.specs.declared.error.CacheErr.{CacheErr}
-use Rattle.cache_api.specs.declared.puts.Put.{Put}
 use Rattle.cache_api.specs.declared.puts.Put.TheVariants.{Stored, Full}
 use Rattle.cache_api.specs.Pairs.{Pair, chosen}
-use Rattle.record_log.specs.Kinds.{Entry}
 use Rattle.pair_frames.specs.Puts.{added}
 use Rattle.cli_words.specs.declared.order.Access.{Access}
-use Rattle.relay_store.specs.declared.part.Part.{Part}
 use Rattle.relay_store.specs.declared.relay.Relay.{Relay}
 use Rattle.relay_store.specs.Access.{is_there, IsAccessOf}
 use Rattle.relay_store.specs.Stores.{frames_in}
@@ -19,7 +15,7 @@ use Rattle.relay_store.specs.Parts as part
 use Rattle.relay_store.specs.Parts.{space_of, HasRoom, AllFit}
 use Rattle.relay_store.specs.Puts.{Space, filled}
 use Rattle.relay_store.specs.Relays.{room_by, state_of, spaces}
-use Rattle.relay_store.proofs.Fitting.{fit_one, filled_part}
+use Rattle.relay_store.proofs.Fitting.{filled_part}
 
 -- what is put into is there
 pub local_there : {A B : Type 0} {access : Access} {a : _} {b : _} → IsAccessOf {A = A} {B = B} access a b

@@ -3,7 +3,6 @@ use Rattle.std.proofs.Common.{◌≡◌, ◌⊎◌, ⊎_elim, ℕ, List, [], ◌
 use Rattle.std.specs.Prelude.{Result, IfOk, IfSome}
 use Rattle.codes.specs.Views.{found_as}
 use Rattle.cache_api.specs.declared.hit.Hit.{Hit}
-use Rattle.std.proofs.lemmas.List.{append-nil}
 use Rattle.globs.specs.declared.out_set.OutSet.{OutSet}
 use Rattle.cache_api.specs.Artifacts.{Artifact}
 use Rattle.cache_api.specs.Reading.{Reader}

@@ -1,12 +1,10 @@
 -- Pairs for which a store has room.
-use Rattle.std.proofs.Common.{◌≡◌, ℕ, ◌+◌, ◌-◌, ◌*◌, ◌^◌, ◌<◌, ◌≤◌, Bool, true, false, cond, List, [], ◌∷◌, ◌++◌, length, map, Option, Some, None, refl, sym, ◌∙◌, ap, subst, arith, length-append}
-use Rattle.std.specs.Prelude.{nat_le, min, sum_by, IsTrue}
+use Rattle.std.proofs.Common.{◌≡◌, ℕ, ◌-◌, ◌≤◌, Bool, true, false, cond, List, [], ◌∷◌, ◌++◌, length, map, Option, Some, None, refl, ◌∙◌, ap, arith, length-append}
+use Rattle.std.specs.Prelude.{nat_le, sum_by}
 use Rattle.std.proofs.lemmas.Bool.{le-leb}
 use Rattle.std.proofs.lemmas.List.{append-nil}
 use Rattle.store_dev.specs.declared.device.StoreDevice.{Ghosts}
-use Rattle.cache_api.specs.declared.puts.Put.{Put}
 use Rattle.cache_api.specs.declared.puts.Put.TheVariants.{Stored}
-use Rattle.cache_api.specs.Memory.{capped}
 use Rattle.cache_api.specs.Pairs.{Pair}
 use Rattle.cache_api.specs.Cache.{ample}
 use Rattle.record_log.specs.Kinds.{Entry}
@@ -21,7 +19,7 @@ use Rattle.artifact_store.proofs.Fits as fits
 use Rattle.relay_store.specs.declared.part.Part.{Part}
 use Rattle.relay_store.specs.Access.{is_there}
 use Rattle.relay_store.specs.Stores.{state_in, frames_in, stores_in}
-use Rattle.relay_store.specs.Puts.{Space, need, filled, all_stored}
+use Rattle.relay_store.specs.Puts.{need, filled, all_stored}
 use Rattle.relay_store.specs.Parts.{state_of, space_of, HasRoom, AllFit}
 use Rattle.relay_store.proofs.Spaces.{stored_all}
 

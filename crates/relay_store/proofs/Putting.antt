@@ -1,5 +1,5 @@
 -- Calls that put pairs, one after another.
-use Rattle.std.proofs.Common.{◌≡◌, ◌⊎◌, inl, inr, ⊎_elim, ℕ, zero, suc, ◌+◌, ◌≤◌, Bool, true, false, List, [], ◌∷◌, ◌++◌, length, take, drop, Option, Some, None, Ok, Err, refl, sym, ◌∙◌, ap, subst, arith, append_assoc, length-append}
+use Rattle.std.proofs.Common.{◌≡◌, ℕ, zero, suc, ◌+◌, ◌≤◌, Bool, true, false, List, [], ◌∷◌, ◌++◌, length, take, drop, Option, Some, Ok, Err, refl, sym, ◌∙◌, ap, subst, arith, append_assoc, length-append}
 use Rattle.std.specs.Prelude.{◌&&◌, ◌||◌, IsTrue, Result, IfOk, IfErr, OnOk, OnErr}
 use Rattle.std.proofs.lemmas.List.{append-nil, take_all, take-append-le, drop-append-le}
 use Rattle.rel_path.specs.Causes.{Counts}
@@ -7,7 +7,7 @@ use Rattle.store_dev.specs.declared.device.StoreDevice.{Ghosts}
 use Rattle.cache_api.specs.declared.error.CacheErr.{CacheErr}
 use Rattle.cache_api.specs.declared.error.CacheErr.TheVariants.{Full, Failed, OutOfMemory}
 use Rattle.cache_api.specs.declared.puts.Puts.{Puts}
-use Rattle.cache_api.specs.Cache.{AllAfter, Keeps, HitsStay, StaysWhole, is_fault, IsFindErr}
+use Rattle.cache_api.specs.Cache.{AllAfter, Keeps, StaysWhole, is_fault, IsFindErr}
 use Rattle.cache_api.specs.Calls.{stay_none, stay_then, keeps_none, keeps_then}
 use Rattle.cache_api.specs.Moments.{Leaves, started, leaves_more, leaves_then}
 use Rattle.cache_api.specs.Pairs.{Pair, IsFirstPart}
@@ -15,11 +15,9 @@ use Rattle.artifact_store.specs.Pairs.{told_as}
 use Rattle.relay_store.specs.declared.part.Part.{Part}
 use Rattle.relay_store.specs.declared.relay.Relay.{Relay}
 use Rattle.relay_store.specs.Stores.{state_in}
-use Rattle.relay_store.specs.Parts as part
 use Rattle.relay_store.specs.Parts.{first_of, more_of, pairs_of, IsRead, into, MayGrow}
 use Rattle.relay_store.specs.Agree.{firsts, later}
-use Rattle.relay_store.specs.Relays.{RelayBase, Image, first_pairs, says, says_by, IsNotedBy, base_of, state_of, stands, shows, later_of, moment_of, left_of}
-use Rattle.relay_store.specs.Relays.Image.{Local, Second}
+use Rattle.relay_store.specs.Relays.{RelayBase, first_pairs, says, says_by, IsNotedBy, base_of, state_of, stands, shows, later_of, moment_of, left_of}
 use Rattle.relay_store.specs.Calls.{IsPutting}
 use Rattle.relay_store.specs.Laws.{OnlyNow, parted, noted_all, later_local, later_second, rests, local_says, second_says}
 use Rattle.relay_store.proofs.Relays.{relay_leaves, relay_hits, relay_keeps}
@@ -151,8 +149,12 @@ module _ {S R : Type 0} {G : Ghosts S} {H : Ghosts R} where
     pairs = λ told. sym (append-nil (state_of a).pairs);
     grown = λ told. ([], sym (append-nil (later_of a)));
     left = λ told. started moment_of left_of a (λ image. IsFirstPart (state_of a).pairs [] (says (base_of a) image))
-        (λ image left. (0, omega arith, rests only also a image told whole left
-        ∙ ap (λ (l : List Pair). Some l) (sym (append-nil (state_of a).pairs))));
+        (λ image left. (
+          0,
+          omega arith,
+          rests only also a image told whole left
+              ∙ ap (λ (l : List Pair). Some l) (sym (append-nil (state_of a).pairs)),
+        ));
     hits = stay_none (G.tells × H.tells) stands shows a;
     keeps = keeps_none (state_of a);
     whole = refl;
@@ -173,8 +175,11 @@ module _ {S R : Type 0} {G : Ghosts S} {H : Ghosts R} where
         pairs = λ told. same_ok r (state_of old).pairs (state_of new).pairs (λ i.
             firsts (access i).local_puts (take (xl.first i) (xl.reads.pairs told.0 i)) (take (xs.first i) (xs.reads.pairs told.1 i))
             ++ take (added i) (later (access i).local_puts (drop (xl.first i) (xl.reads.pairs told.0 i)) (drop (xs.first i) (xs.reads.pairs told.1 i))));
-        grown = λ told. ([], (λ i. later (access i).local_puts (drop (xl.first i) (xl.reads.pairs told.0 i)) (drop (xs.first i) (xs.reads.pairs told.1 i)))
-            ∙ sym (append-nil (later_of old)));
+        grown = λ told. (
+          [],
+          (λ i. later (access i).local_puts (drop (xl.first i) (xl.reads.pairs told.0 i)) (drop (xs.first i) (xs.reads.pairs told.1 i)))
+              ∙ sym (append-nil (later_of old)),
+        );
         left = λ told. relay_leaves old new
             (λ c. told_as (state_in old.local.store).base c ≡ Some (pairs_of old.local))
             (λ c. told_as (state_in old.second.store).base c ≡ Some (pairs_of old.second))

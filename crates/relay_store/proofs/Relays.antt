@@ -1,11 +1,10 @@
 -- From what calls leave of the two stores to what they leave of the relay.
-use Rattle.std.proofs.Common.{◌≡◌, ◌⊎◌, inl, inr, ⊎_elim, ℕ, ◌+◌, ◌≤◌, Bool, true, false, cond, List, [], ◌∷◌, ◌++◌, length, take, drop, Option, Some, None, refl, sym, ◌∙◌, ap, subst, arith}
-use Rattle.std.specs.Prelude.{◌&&◌, ◌==◌, min, IsTrue}
+use Rattle.std.proofs.Common.{◌≡◌, ◌⊎◌, inl, inr, ⊎_elim, ℕ, ◌+◌, ◌≤◌, Bool, true, false, cond, List, [], ◌++◌, take, drop, Some, refl, sym, ◌∙◌, ap, subst, arith}
+use Rattle.std.specs.Prelude.{◌&&◌, ◌==◌, IsTrue}
 use Rattle.std.proofs.lemmas.Bool.{eq-eqb}
 use Rattle.store_dev.specs.declared.device.StoreDevice.{Ghosts}
 use Rattle.cache_api.specs.declared.hit.Hit.{Hit}
-use Rattle.cache_api.specs.Artifacts.{Artifact}
-use Rattle.cache_api.specs.Cache.{CacheState, Keeps, HitsStay, CacheReads}
+use Rattle.cache_api.specs.Cache.{Keeps, HitsStay, CacheReads}
 use Rattle.cache_api.specs.Calls.{reads_none}
 use Rattle.cache_api.specs.Found.{found}
 use Rattle.cache_api.specs.Reading.{artifact_in}
@@ -17,7 +16,7 @@ use Rattle.artifact_store.specs.Pairs.{told_as}
 use Rattle.cli_words.specs.declared.order.Access.{Access}
 use Rattle.relay_store.specs.declared.part.Part.{Part}
 use Rattle.relay_store.specs.declared.relay.Relay.{Relay}
-use Rattle.relay_store.specs.Stores.{state_in, moment_in, images_in, stands_in, shows_in}
+use Rattle.relay_store.specs.Stores.{state_in, shows_in}
 use Rattle.relay_store.specs.Parts as part
 use Rattle.relay_store.specs.Parts.{PartBase, first_of, more_of, pairs_of, IsRead}
 use Rattle.relay_store.specs.Agree.{firsts, later}

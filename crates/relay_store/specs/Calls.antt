@@ -1,5 +1,5 @@
 -- What the calls of a relay that put pairs leave, and how they follow one another.
-use Rattle.std.specs.Prelude.{◌≡◌, ℕ, List, ◌++◌, Result, IfErr, OnOk}
+use Rattle.std.specs.Prelude.{◌≡◌, List, ◌++◌, Result, IfErr, OnOk}
 use Rattle.rel_path.specs.Causes.{Counts}
 use Rattle.store_dev.specs.declared.device.StoreDevice.{Ghosts}
 use Rattle.cache_api.specs.declared.error.CacheErr.{CacheErr}

@@ -1,19 +1,19 @@
 -- What a relay that is whole leaves to a crash, and what its images say of each of its devices.
-use Rattle.std.proofs.Common.{◌≡◌, ◌≢◌, ◌⊎◌, inl, inr, ⊎_elim, ℕ, ◌≤◌, Bool, true, false, cond, List, [], ◌∷◌, ◌++◌, length, map, take, drop, Option, Some, None, refl, sym, ◌∙◌, ap, subst, arith}
-use Rattle.std.specs.Prelude.{◌&&◌, ◌==◌, min, IsTrue}
+use Rattle.std.proofs.Common.{◌≡◌, ◌⊎◌, inl, inr, ⊎_elim, ℕ, ◌≤◌, Bool, true, false, cond, List, [], ◌++◌, length, map, take, Option, Some, None, refl, sym, ◌∙◌, ap, subst, arith, append_assoc}
+use Rattle.std.specs.Prelude.{◌&&◌, ◌==◌, IsTrue}
 use Rattle.std.proofs.lemmas.Bool.{and_parts, eq-eqb}
-use Rattle.std.proofs.lemmas.List.{append-nil, take_all, take-append-drop}
+use Rattle.std.proofs.lemmas.List.{append-nil, append_cancel_left, take_all, take-append-drop}
 use Rattle.store_dev.specs.Device.{LeavesOnly}
+use Rattle.store_dev.specs.Moments as device
 use Rattle.store_dev.specs.declared.device.StoreDevice.{Ghosts}
-use Rattle.rel_path.specs.Paths.{Path}
 use Rattle.cache_api.specs.declared.hit.Hit.{Hit}
-use Rattle.cache_api.specs.Artifacts.{Artifact, File}
+use Rattle.cache_api.specs.Artifacts.{File}
 use Rattle.cache_api.specs.Hits.{paths_of}
-use Rattle.cache_api.specs.Cache.{ample}
-use Rattle.cache_api.specs.Moments.{Moment, NoLater, Leaves}
+use Rattle.cache_api.specs.Moments.{Leaves, leaves_more}
 use Rattle.cache_api.specs.Pairs.{Pair, IsFirstPart}
 use Rattle.record_log.specs.Frames.{text_of}
-use Rattle.pair_frames.specs.Laws.{AreTexts, PutLaw}
+use Rattle.pair_frames.specs.Laws.{AreTexts}
+use Rattle.pair_frames.proofs.Sizes.{size_ample}
 use Rattle.pair_frames.specs.Puts.{put_size}
 use Rattle.artifact_store.specs.declared.store.Store.{Store}
 use Rattle.artifact_store.specs.Hits.{shown_paths}
@@ -22,10 +22,9 @@ use Rattle.artifact_store.specs.Pairs.{told_as}
 use Rattle.artifact_store.specs.Store.{device_of, frames_of}
 use Rattle.relay_store.specs.declared.part.Part.{Part}
 use Rattle.relay_store.specs.declared.relay.Relay.{Relay}
-use Rattle.relay_store.specs.Behind.{in_place}
 use Rattle.relay_store.specs.Fronts.{in_place_is, in_place_was, is_first}
 use Rattle.relay_store.specs.Stores.{state_in, moment_in, images_in, stands_in, shows_in}
-use Rattle.relay_store.specs.Parts.{first_of, more_of, pairs_of}
+use Rattle.relay_store.specs.Parts.{first_of, more_of, pairs_of, into}
 use Rattle.relay_store.specs.Agree.{firsts, later}
 use Rattle.relay_store.specs.Puts.{Space, need}
 use Rattle.relay_store.specs.Relays.{RelayBase, first_pairs, Image, says_by, says, IsNotedBy, IsNoted, base_of, state_of, stands, shows, moment_of, left_of}
@@ -34,9 +33,9 @@ use Rattle.relay_store.specs.Relays.Image.{Local, Second}
 -- ---- what a pair needs
 
 -- texts need the size of their frames
-pub need_is : (law : PutLaw) (space : Space) (pair : Pair) → AreTexts pair
+pub need_is : (space : Space) (pair : Pair) → AreTexts pair
     → need space pair ≡ put_size space.frames pair
-need_is law space pair texts = omega (arith, law.size space.frames pair texts)
+need_is space pair texts = omega (arith, size_ample space.frames pair texts)
 
 -- ---- hits
 
@@ -243,3 +242,91 @@ module _ {S R : Type 0} {G : Ghosts S} {H : Ghosts R} (old new : Relay S R G H)
         (record { first = omega arith; second = le })
         (since, subst (λ (b : RelayBase G.tells H.tells). IsNoted b (Second t u c)) (sym same) noted)));
   }
+
+-- ---- what the relay put
+
+-- an image has the pairs that the store had, and the first of those that were put into it
+goes_first : (puts : Bool) (all first more pairs added : List Pair) (told : Option (List Pair))
+    → (puts ≡ false → more ≡ []) → (puts ≡ true → all ++ more ≡ pairs)
+    → GoesOn puts all first
+    (λ now. (n : ℕ) × (n ≤ length added) × (now ≡ pairs ++ take n added)) told
+    → IsFirstPart (first ++ more) (into puts added) told
+goes_first true all first more pairs added told none ends goes =
+    let (n, le, is) = goes.relay refl in
+    let same : goes.more ≡ more ++ take n added =
+    append_cancel_left all goes.more (more ++ take n added)
+    (is ∙ ap (λ (l : List Pair). l ++ take n added) (sym (ends refl))
+    ∙ append_assoc all more (take n added)) in (
+      n,
+      le,
+      goes.stands ∙ ap (λ (l : List Pair). Some (first ++ l)) same
+          ∙ ap (λ (l : List Pair). Some l) (sym (append_assoc first more (take n added))),
+    )
+goes_first false all first more pairs added told none ends goes =
+    let empty : goes.more ≡ more ++ [] = goes.none refl ∙ sym (none refl) ∙ sym (append-nil more) in (
+      0,
+      omega arith,
+      goes.stands ∙ ap (λ (l : List Pair). Some (first ++ l)) empty
+          ∙ ap (λ (l : List Pair). Some l) (sym (append_assoc first more [])),
+    )
+
+module _ {S R : Type 0} {G : Ghosts S} {H : Ghosts R} (old new : Relay S R G H)
+    (whole : IsTrue old.whole) (t : G.tells) (u : H.tells) (same : base_of new ≡ base_of old)
+    (added : List Pair)
+    (leaves : Leaves moment_of left_of old new
+    (λ image. IsFirstPart (state_of old).pairs added (says (base_of old) image))) where
+  said : Leaves moment_of left_of old new
+      (λ image. Says (λ now. (n : ℕ) × (n ≤ length added) × (now ≡ (state_of old).pairs ++ take n added)) (says (base_of old) image))
+  said = leaves_more moment_of left_of old new _ _ leaves
+      (λ image first. let (n, le, is) = first in ((state_of old).pairs ++ take n added, is, (n, le, refl)))
+
+  -- Of the local device: whatever a crash may have left at any moment is a store with the pairs that the
+  -- local one had, and the first of those that were put into it.
+  pub local_images : LeavesOnly moment_in images_in old.local.store new.local.store
+      (λ c. IsFirstPart (pairs_of old.local) (into old.access.local_puts added)
+      (told_as (base_of old).local.generation c))
+  local_images =
+      let agree = old.agrees whole t u in
+      device.leaves_more moment_in images_in old.local.store new.local.store _ _ (local_device old new _ t u same said)
+      (λ c goes. subst (λ (l : List Pair). IsFirstPart l (into old.access.local_puts added) (told_as (base_of old).local.generation c))
+      (sym (parted old.local))
+      (goes_first old.access.local_puts _ (first_of old.local) (more_of old.local) (state_of old).pairs added _ agree.local_none
+      (later_local old.access.local_puts _ (more_of old.local) (more_of old.second) old.added agree.counted agree.local_none) goes))
+
+  -- and of the second one
+  pub second_images : LeavesOnly moment_in images_in old.second.store new.second.store
+      (λ c. IsFirstPart (pairs_of old.second) (into old.access.second_puts added)
+      (told_as (base_of old).second.generation c))
+  second_images =
+      let agree = old.agrees whole t u in
+      device.leaves_more moment_in images_in old.second.store new.second.store _ _ (second_device old new _ t u same said)
+      (λ c goes. subst (λ (l : List Pair). IsFirstPart l (into old.access.second_puts added) (told_as (base_of old).second.generation c))
+      (sym (parted old.second))
+      (goes_first old.access.second_puts _ (first_of old.second) (more_of old.second) (state_of old).pairs added _ agree.second_none
+      (later_second old.access.local_puts old.access.second_puts _ (more_of old.local) (more_of old.second) old.added agree.counted agree.same) goes))
+
+-- ---- the stores of a relay that may be used
+
+module _ {S R : Type 0} {G : Ghosts S} {H : Ghosts R} (r : Relay S R G H) (whole : IsTrue r.whole)
+    (t : G.tells) (u : H.tells) where
+  pub local_goes : GoesOn r.access.local_puts (first_pairs (base_of r) t u) (first_of r.local)
+      (λ pairs. pairs ≡ (state_of r).pairs) (Some (pairs_of r.local))
+  local_goes =
+      let agree = r.agrees whole t u in
+      record {
+        more = more_of r.local;
+        stands = ap (λ (l : List Pair). Some l) (parted r.local);
+        relay = later_local r.access.local_puts _ (more_of r.local) (more_of r.second) r.added agree.counted agree.local_none;
+        none = agree.local_none;
+      }
+
+  pub second_goes : GoesOn r.access.second_puts (first_pairs (base_of r) t u) (first_of r.second)
+      (λ pairs. pairs ≡ (state_of r).pairs) (Some (pairs_of r.second))
+  second_goes =
+      let agree = r.agrees whole t u in
+      record {
+        more = more_of r.second;
+        stands = ap (λ (l : List Pair). Some l) (parted r.second);
+        relay = later_second r.access.local_puts r.access.second_puts _ (more_of r.local) (more_of r.second) r.added agree.counted agree.same;
+        none = agree.second_none;
+      }

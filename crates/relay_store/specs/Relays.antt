@@ -10,7 +10,6 @@ use Rattle.cache_api.specs.Pairs.{Pair}
 use Rattle.artifact_store.specs.declared.store.Store.{Store}
 use Rattle.artifact_store.specs.Pairs.{told_as}
 use Rattle.cli_words.specs.declared.order.Access.{Access}
-use Rattle.relay_store.specs.declared.part.Part.{Part}
 use Rattle.relay_store.specs.declared.relay.Relay.{Relay}
 use Rattle.relay_store.specs.declared.relay.TheConstants.{LOCAL, SECOND}
 use Rattle.relay_store.specs.Stores.{state_in, moment_in, images_in, stands_in, shows_in, cost_in}

@@ -11,8 +11,8 @@ ghost use Rattle.cache_api.specs.Keys.{text_of as key_text};
 ghost use Rattle.cache_api.specs.Reading.{artifact_in};
 ghost use Rattle.relay_store.specs.Parts.{state_of, pairs_of, cost_of, stands, shows, IsRead};
 
-use crate::{LOCAL, Relay, SECOND};
 use crate::part::Part;
+use crate::{LOCAL, Relay, SECOND};
 use cache_api::{Cache, CacheErr, Hit, Key, NewPair, Puts};
 use globs::OutSet;
 use rel_path::Bytes;
@@ -58,9 +58,25 @@ impl<S: StoreDevice, R: StoreDevice> Cache for Relay<S, R> {
         outs: &OutSet,
     ) -> Result<Option<Hit>, CacheErr> {
         if self.access.local_puts {
-            look_up(alloc, key, outs, &mut self.local, LOCAL, &mut self.second, SECOND)
+            look_up(
+                alloc,
+                key,
+                outs,
+                &mut self.local,
+                LOCAL,
+                &mut self.second,
+                SECOND,
+            )
         } else {
-            look_up(alloc, key, outs, &mut self.second, SECOND, &mut self.local, LOCAL)
+            look_up(
+                alloc,
+                key,
+                outs,
+                &mut self.second,
+                SECOND,
+                &mut self.local,
+                LOCAL,
+            )
         }
     }
 

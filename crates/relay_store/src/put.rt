@@ -42,11 +42,7 @@ impl<S: StoreDevice, R: StoreDevice> Relay<S, R> {
 
     /// Adds pairs to each store that is put into, where each has room for all of them. After an error the pairs are as
     /// before, and the relay may no longer be used.
-    pub(crate) fn put_fitting(
-        &mut self,
-        alloc: Global,
-        pairs: &[NewPair],
-    ) -> Result<Puts, CacheErr>
+    pub(crate) fn put_fitting(&mut self, alloc: Global, pairs: &[NewPair]) -> Result<Puts, CacheErr>
         requires whole { IsTrue (state_of self.old).whole }
         requires local { self.old.access.local_puts ≡ true → S.tells
             → AllFit self.old.local (new_pairs pairs.now) }
@@ -81,11 +77,7 @@ impl<S: StoreDevice, R: StoreDevice> Relay<S, R> {
 
     /// Puts pairs one after another, each where there is room for it. After an error the pairs are as before, and the relay
     /// may no longer be used.
-    pub(crate) fn put_each(
-        &mut self,
-        alloc: Global,
-        pairs: &[NewPair],
-    ) -> Result<Puts, CacheErr>
+    pub(crate) fn put_each(&mut self, alloc: Global, pairs: &[NewPair]) -> Result<Puts, CacheErr>
         requires { IsTrue (state_of self.old).whole }
         ensures outcome { S.tells → R.tells
             → IfOk result (λ puts. puts ≡ stores self.old (new_pairs pairs.now)) }

@@ -34,15 +34,12 @@ pub struct Relay<S: StoreDevice, R: StoreDevice> {
 impl<S: StoreDevice, R: StoreDevice> Relay<S, R> {
     ghost use Rattle.std.specs.Prelude.{◌≡◌};
     ghost use Rattle.relay_store.specs.Stores.{state_in};
-    ghost use Rattle.relay_store.specs.Relays.{state_of, stores_of, all_pairs};
+    ghost use Rattle.relay_store.specs.Relays.{first_pairs, state_of, stores_of, all_pairs};
+    ghost use Rattle.relay_store.specs.Laws.{GoesOn};
 
     /// A cache over these stores. A store is there exactly where it is read, what is put into is also read, and one at
     /// least is put into.
-    pub fn new(
-        local: Option<Store<S>>,
-        second: Option<Store<R>>,
-        access: Access,
-    ) -> Relay<S, R>
+    pub fn new(local: Option<Store<S>>, second: Option<Store<R>>, access: Access) -> Relay<S, R>
         requires access { IsAccessOf access local second }
         requires local { IsTrue (state_in local).whole }
         requires second { IsTrue (state_in second).whole }
@@ -67,7 +64,19 @@ impl<S: StoreDevice, R: StoreDevice> Relay<S, R> {
 
     /// The stores, as the last call left them.
     pub fn parts(self) -> (Option<Store<S>>, Option<Store<R>>)
-        ensures { result ≡ stores_of self }
+        ensures stores { result ≡ stores_of self }
+        ensures whole { IsTrue (state_of self).whole
+            → IsTrue (state_in result.0).whole × IsTrue (state_in result.1).whole }
+        // While the relay may be used, a store that is put into has what the relay put behind the store's first pairs, and
+        // no other store has more than those.
+        ensures local { (t : S.tells) (u : R.tells) → IsTrue (state_of self).whole
+            → GoesOn (state_of self).base.access.local_puts
+            (first_pairs (state_of self).base t u) ((state_of self).base.local.first t)
+            (λ pairs. pairs ≡ (state_of self).pairs) (Some (state_in result.0).pairs) }
+        ensures second { (t : S.tells) (u : R.tells) → IsTrue (state_of self).whole
+            → GoesOn (state_of self).base.access.second_puts
+            (first_pairs (state_of self).base t u) ((state_of self).base.second.first u)
+            (λ pairs. pairs ≡ (state_of self).pairs) (Some (state_in result.1).pairs) }
     {
         (self.local.store, self.second.store)
     }

@@ -30,5 +30,7 @@ fn ample_for_one(pair: NewPair) -> u64
 {
     let key = pair.key.text().len() as u64;
     let bytes = key.saturating_add(pair.artifact.text_len());
-    bytes.saturating_mul(ROOM_FOR_A_BYTE).saturating_add(ROOM_BESIDE)
+    bytes
+        .saturating_mul(ROOM_FOR_A_BYTE)
+        .saturating_add(ROOM_BESIDE)
 }

@@ -1,10 +1,9 @@
-use Rattle.std.proofs.Common.{arith, subst}
-use Rattle.std.specs.Prelude.{Bool, IfOk, Err, min}
+use Rattle.std.proofs.Common.{arith}
+use Rattle.std.specs.Prelude.{Err, min}
 use Rattle.std.proofs.lemmas.Result.{err_from_is_err_and, IfOk-weaker}
 use Rattle.cache_api.specs.Cache.{ArePut}
 use Rattle.cache_api.specs.Keys.{new_pairs}
 use Rattle.relay_store.specs.Parts.{state_of}
-use Rattle.relay_store.specs.Relays.{room_by}
 use Rattle.relay_store.proofs.Asked.{may_none, on_ok}
 use Rattle.relay_store.proofs.Spaces.{are_put_less}
 use Rattle.relay_store.proofs.put.put_into.Goals as goal

@@ -1,13 +1,11 @@
-use Rattle.std.proofs.Common.{◌≡◌, ℕ, Bool, cond, List, Option, refl, sym, ◌∙◌, ap, subst}
+use Rattle.std.proofs.Common.{◌≡◌, ℕ, Bool, cond, Option, refl, ap, subst}
 use Rattle.std.specs.Prelude.{◌==◌, IfOk}
 use Rattle.std.proofs.lemmas.Bool.{and_parts, eq-eqb}
 use Rattle.codes.specs.Views.{found_as}
 use Rattle.cache_api.specs.declared.hit.Hit.{Hit}
 use Rattle.cache_api.specs.Artifacts.{Artifact}
 use Rattle.cache_api.specs.Keys.{text_of}
-use Rattle.cache_api.specs.Reading.{artifact_in}
 use Rattle.relay_store.specs.Parts.{shows}
-use Rattle.relay_store.specs.Relays as relay
 use Rattle.relay_store.proofs.Relays.{relay_reads, found_local, found_second}
 use Rattle.relay_store.proofs.cache.RelayCache.lookup_keyed.Goals as goal
 

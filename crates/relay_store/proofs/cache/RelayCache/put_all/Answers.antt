@@ -1,14 +1,12 @@
-use Rattle.std.proofs.Common.{◌≡◌, ◌≤◌, List, sym, ◌∙◌, ap, subst, arith}
-use Rattle.std.specs.Prelude.{sum_by, IfOk}
+use Rattle.std.proofs.Common.{◌≡◌, List, sym, ◌∙◌, ap, subst, arith}
+use Rattle.std.specs.Prelude.{sum_by}
 use Rattle.std.proofs.lemmas.Result.{IfOk-weaker}
-use Rattle.cache_api.specs.declared.puts.Put.{Put}
 use Rattle.cache_api.specs.Cache.{ample, AllAfter}
 use Rattle.cache_api.specs.Keys.{new_pairs}
-use Rattle.cache_api.specs.Moments.{Leaves}
-use Rattle.cache_api.specs.Pairs.{Pair, chosen, IsFirstPart}
+use Rattle.cache_api.specs.Pairs.{Pair, chosen}
 use Rattle.relay_store.specs.Parts as part
 use Rattle.relay_store.specs.Puts.{all_stored}
-use Rattle.relay_store.specs.Relays.{state_of, spaces, stores, moment_of, left_of, says, base_of}
+use Rattle.relay_store.specs.Relays.{state_of, spaces, stores}
 use Rattle.relay_store.proofs.Filled.{local_there, second_there, room_local, room_second, each_space}
 use Rattle.relay_store.proofs.Fitting.{fit_ample}
 use Rattle.relay_store.proofs.Putting.{putting_as, all_after}

@@ -1,6 +1,5 @@
-use Rattle.std.proofs.Common.{◌≡◌, ◌≤◌, ◌<◌, ◌^◌, List, ap, sym, ◌∙◌, subst, arith}
+use Rattle.std.proofs.Common.{◌≡◌, ◌<◌, ◌^◌, List, ap, arith}
 use Rattle.std.proofs.lemmas.Bool.{leb-true}
-use Rattle.cache_api.specs.Cache.{ample}
 use Rattle.record_log.specs.Kinds.{Entry}
 use Rattle.blob_pool.specs.Laws.{frames_read}
 use Rattle.pair_frames.specs.Puts.{put_size}

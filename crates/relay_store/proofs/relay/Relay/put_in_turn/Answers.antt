@@ -1,8 +1,6 @@
-use Rattle.std.proofs.Common.{rules, ◌≡◌, ◌<◌, ◌+◌, List, [], ◌∷◌, ◌++◌, length, take, drop, get_or, Err, Ok, sym, ap, subst}
-use Rattle.std.proofs.lemmas.List.{take_all}
+use Rattle.std.proofs.Common.{rules, ◌<◌, ◌+◌, List, [], ◌∷◌, ◌++◌, length, take, drop, Err, sym, subst}
 use Rattle.std.proofs.lemmas.Result.{err_from_is_err_and}
 use Rattle.cache_api.specs.declared.error.CacheErr.TheVariants.{OutOfMemory}
-use Rattle.cache_api.specs.declared.puts.NewPair.{NewPair}
 use Rattle.cache_api.specs.declared.puts.Put.{Put}
 use Rattle.cache_api.specs.declared.puts.Puts.{Puts}
 use Rattle.cache_api.specs.Keys.{new_pairs}
@@ -10,7 +8,7 @@ use Rattle.cache_api.specs.Pairs.{Pair, chosen}
 use Rattle.pair_writer.specs.Putting.{new_pair}
 use Rattle.relay_store.specs.Relays.{stores}
 use Rattle.relay_store.specs.Calls.{IsPutting}
-use Rattle.relay_store.proofs.Turn.{InTurn, around, one_more, no_turn, next_turn, turn_err, turn_memory, last_turn}
+use Rattle.relay_store.proofs.Turn.{InTurn, around, one_more, no_turn, next_turn, turn_err, turn_memory}
 use Rattle.relay_store.proofs.relay.Relay.put_in_turn.Goals as goal
 
 pub loop-pair-init : goal.loop-pair-init

@@ -1,17 +1,15 @@
-use Rattle.std.proofs.Common.{◌≡◌, true, cond, Bool, List, [], ◌∷◌, map, Ok, Err, refl, sym, ◌∙◌, ap}
+use Rattle.std.proofs.Common.{◌≡◌, true, cond, Bool, List, [], ◌∷◌, map, Ok, Err, sym, ◌∙◌, ap}
 use Rattle.std.specs.List.{list_all}
 use Rattle.std.proofs.lemmas.Result.{err_from_is_err_and}
 use Rattle.cache_api.specs.declared.puts.Put.{Put}
 use Rattle.cache_api.specs.declared.puts.Puts.{Puts}
-use Rattle.cache_api.specs.Pairs.{Pair}
 use Rattle.pair_writer.specs.Putting.{new_pair}
 use Rattle.cli_words.specs.declared.order.Access.{Access}
-use Rattle.relay_store.specs.Puts.{Space, takes, filled, spaces_behind}
-use Rattle.relay_store.specs.Relays.{spaces, stores}
+use Rattle.relay_store.specs.Puts.{Space, takes, filled}
+use Rattle.relay_store.specs.Relays.{spaces}
 use Rattle.relay_store.proofs.Fitting.{fit_one}
 use Rattle.relay_store.proofs.Filled.{local_there, second_there, chosen_one, spaces_filled}
 use Rattle.relay_store.proofs.Putting.{putting_then, putting_as, putting_err, putting_ok}
-use Rattle.relay_store.proofs.Spaces.{behind_one}
 use Rattle.relay_store.proofs.relay.Relay.put_one.Goals as goal
 
 pub returns-in_err-takes-clause-putting : goal.returns-in_err-takes-clause-putting

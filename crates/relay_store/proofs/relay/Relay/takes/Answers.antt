@@ -1,4 +1,4 @@
-use Rattle.std.proofs.Common.{Bool, false, Ok, Err, refl}
+use Rattle.std.proofs.Common.{false, Ok, Err, refl}
 use Rattle.std.proofs.lemmas.Bool.{and_parts}
 use Rattle.std.proofs.lemmas.Result.{err_from_is_err_and}
 use Rattle.cache_api.specs.Cache.{is_fault}
