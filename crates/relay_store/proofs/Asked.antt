@@ -12,7 +12,7 @@ use Rattle.cache_api.specs.declared.puts.Puts.{Puts}
 use Rattle.cache_api.specs.Cache.{CacheReads, HitsStay, Keeps, ArePut, AllAfter, StaysWhole, is_fault, IsFindErr}
 use Rattle.cache_api.specs.Moments.{Moment, NoLater, Leaves, started}
 use Rattle.cache_api.specs.Calls.{keeps_none, stay_none}
-use Rattle.relay_store.specs.Laws.{OnlyNow, rest_in}
+use Rattle.relay_store.specs.Rests.{OnlyNow, rest_in}
 use Rattle.cache_api.specs.Pairs.{Pair, chosen, IsFirstPart}
 use Rattle.pair_frames.specs.Puts.{added}
 use Rattle.artifact_store.specs.declared.store.Store.{Store}

@@ -19,7 +19,7 @@ use Rattle.relay_store.specs.Parts.{first_of, more_of, pairs_of, IsRead, into, M
 use Rattle.relay_store.specs.Agree.{firsts, later}
 use Rattle.relay_store.specs.Relays.{RelayBase, first_pairs, says, says_by, IsNotedBy, base_of, state_of, stands, shows, later_of, moment_of, left_of}
 use Rattle.relay_store.specs.Calls.{IsPutting}
-use Rattle.relay_store.specs.Laws.{OnlyNow, parted, noted_all, later_local, later_second, rests, local_says, second_says}
+use Rattle.relay_store.specs.Rests.{OnlyNow, parted, noted_all, later_local, later_second, rests, local_says, second_says}
 use Rattle.relay_store.proofs.Relays.{relay_leaves, relay_hits, relay_keeps}
 
 -- ---- lists

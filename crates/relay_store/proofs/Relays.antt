@@ -22,7 +22,7 @@ use Rattle.relay_store.specs.Parts.{PartBase, first_of, more_of, pairs_of, IsRea
 use Rattle.relay_store.specs.Agree.{firsts, later}
 use Rattle.relay_store.specs.Relays.{RelayBase, Image, says, IsNoted, room_by, base_of, state_of, cost_of, stands, shows, moment_of, left_of}
 use Rattle.relay_store.specs.Relays.Image.{Local, Second}
-use Rattle.relay_store.specs.Laws.{OnlyNow, rest_in, parted, local_says, second_says}
+use Rattle.relay_store.specs.Rests.{OnlyNow, rest_in, parted, local_says, second_says}
 use Rattle.relay_store.proofs.Finding.{found_mid}
 
 pub room_less : (p q : Bool) (a b c d : ℕ) → c ≤ a → d ≤ b → room_by p q c d ≤ room_by p q a b

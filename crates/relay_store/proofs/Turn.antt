@@ -17,7 +17,7 @@ use Rattle.relay_store.specs.Relays.{state_of, spaces, stores}
 use Rattle.relay_store.specs.Calls.{IsPutting}
 use Rattle.relay_store.proofs.Putting.{putting_then, putting_as, putting_err, putting_ok, putting_memory, putting_none}
 use Rattle.std.specs.Prelude.{IsTrue}
-use Rattle.relay_store.specs.Laws.{OnlyNow}
+use Rattle.relay_store.specs.Rests.{OnlyNow}
 use Rattle.relay_store.proofs.Spaces.{even, puts_append, spaces_append, chosen_append, put_append}
 
 -- what is chosen of pairs and of those behind them

@@ -1,5 +1,6 @@
 -- What the two stores of a relay have behind the pairs that they had at first.
-use Rattle.std.specs.Prelude.{◌≡◌, ℕ, Bool, true, false, ◌&&◌, if◌then◌else◌, List, [], ◌++◌, length}
+use Rattle.std.specs.Prelude.{◌≡◌, ℕ, Bool, true, false, ◌&&◌, if◌then◌else◌, List, [], ◌++◌}
+use Rattle.std.specs.Prelude.{length}
 use Rattle.store_dev.specs.declared.device.StoreDevice.{Ghosts}
 use Rattle.cache_api.specs.Pairs.{Pair}
 use Rattle.cli_words.specs.declared.order.Access.{Access}

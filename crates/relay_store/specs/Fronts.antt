@@ -1,5 +1,6 @@
 -- Laws of lists of pairs that begin with some pairs.
-use Rattle.std.proofs.Common.{◌≡◌, ◌≢◌, ◌⊎◌, inl, inr, Bool, true, false, cond, List, [], ◌∷◌, ◌++◌, Option, Some, None, refl, sym, ◌∙◌, ap}
+use Rattle.std.proofs.Common.{◌≡◌, ◌≢◌, ◌⊎◌, inl, inr, Bool, true, false, cond, List, [], ◌∷◌, ◌++◌}
+use Rattle.std.proofs.Common.{Option, Some, None, refl, sym, ◌∙◌, ap}
 use Rattle.std.proofs.lemmas.Bool.{and_parts}
 use Rattle.std.proofs.lemmas.List.{append-nil}
 use Rattle.rel_path.proofs.PathLaws.{name_same, name_self}
@@ -58,13 +59,15 @@ first_by : (first pairs : List Pair) (o : Option (List Pair)) → behind first p
     → (Some pairs ≡ Some first) ⊎ (Some pairs ≢ Some first)
 first_by first pairs None e =
     inr (λ same. let at : pairs ≡ first = cc in
-    let there : behind first first ≡ Some [] = ap (behind first) (sym (append-nil first)) ∙ behind_front first [] in
+    let there : behind first first ≡ Some [] = ap (behind first) (sym (append-nil first))
+    ∙ behind_front first [] in
     let none : None ≡ Some [] = sym e ∙ ap (behind first) at ∙ there in absurd (cc))
 first_by first pairs (Some []) e =
     inl (ap (λ (l : List Pair). Some l) (behind_was first pairs [] e ∙ append-nil first))
 first_by first pairs (Some (p ∷ more)) e =
     inr (λ same. let at : pairs ≡ first = cc in
-    let there : behind first first ≡ Some [] = ap (behind first) (sym (append-nil first)) ∙ behind_front first [] in
+    let there : behind first first ≡ Some [] = ap (behind first) (sym (append-nil first))
+    ∙ behind_front first [] in
     let other : Some (p ∷ more) ≡ Some [] = sym e ∙ ap (behind first) at ∙ there in absurd (cc))
 
 pub is_first : (first : List Pair) (told : Option (List Pair))

@@ -1,34 +1,27 @@
--- What a relay that is whole leaves to a crash, and what its images say of each of its devices.
-use Rattle.std.proofs.Common.{◌≡◌, ◌⊎◌, inl, inr, ⊎_elim, ℕ, ◌≤◌, Bool, true, false, cond, List, [], ◌++◌, length, map, take, Option, Some, None, refl, sym, ◌∙◌, ap, subst, arith, append_assoc}
-use Rattle.std.specs.Prelude.{◌&&◌, ◌==◌, IsTrue}
-use Rattle.std.proofs.lemmas.Bool.{and_parts, eq-eqb}
-use Rattle.std.proofs.lemmas.List.{append-nil, append_cancel_left, take_all, take-append-drop}
+-- What the images of a relay say of each of its devices, and what a pair needs.
+use Rattle.std.proofs.Common.{◌≡◌, ◌⊎◌, inl, inr, ⊎_elim, ℕ, ◌≤◌, Bool, true, false, List, []}
+use Rattle.std.proofs.Common.{◌++◌, length, take, Option, Some, None, refl, sym, ◌∙◌, ap}
+use Rattle.std.proofs.Common.{subst, arith, append_assoc}
+use Rattle.std.specs.Prelude.{IsTrue}
+use Rattle.std.proofs.lemmas.List.{append-nil, append_cancel_left}
 use Rattle.store_dev.specs.Device.{LeavesOnly}
 use Rattle.store_dev.specs.Moments as device
 use Rattle.store_dev.specs.declared.device.StoreDevice.{Ghosts}
-use Rattle.cache_api.specs.declared.hit.Hit.{Hit}
-use Rattle.cache_api.specs.Artifacts.{File}
-use Rattle.cache_api.specs.Hits.{paths_of}
 use Rattle.cache_api.specs.Moments.{Leaves, leaves_more}
 use Rattle.cache_api.specs.Pairs.{Pair, IsFirstPart}
-use Rattle.record_log.specs.Frames.{text_of}
 use Rattle.pair_frames.specs.Laws.{AreTexts}
 use Rattle.pair_frames.proofs.Sizes.{size_ample}
 use Rattle.pair_frames.specs.Puts.{put_size}
-use Rattle.artifact_store.specs.declared.store.Store.{Store}
-use Rattle.artifact_store.specs.Hits.{shown_paths}
-use Rattle.artifact_store.specs.Laws.{images_told}
 use Rattle.artifact_store.specs.Pairs.{told_as}
-use Rattle.artifact_store.specs.Store.{device_of, frames_of}
-use Rattle.relay_store.specs.declared.part.Part.{Part}
 use Rattle.relay_store.specs.declared.relay.Relay.{Relay}
-use Rattle.relay_store.specs.Fronts.{in_place_is, in_place_was, is_first}
-use Rattle.relay_store.specs.Stores.{state_in, moment_in, images_in, stands_in, shows_in}
+use Rattle.relay_store.specs.Fronts.{in_place_was, is_first}
+use Rattle.relay_store.specs.Stores.{moment_in, images_in}
 use Rattle.relay_store.specs.Parts.{first_of, more_of, pairs_of, into}
-use Rattle.relay_store.specs.Agree.{firsts, later}
 use Rattle.relay_store.specs.Puts.{Space, need}
-use Rattle.relay_store.specs.Relays.{RelayBase, first_pairs, Image, says_by, says, IsNotedBy, IsNoted, base_of, state_of, stands, shows, moment_of, left_of}
+use Rattle.relay_store.specs.Relays.{RelayBase, first_pairs, says_by, says, IsNotedBy}
+use Rattle.relay_store.specs.Relays.{IsNoted, base_of, state_of, moment_of, left_of}
 use Rattle.relay_store.specs.Relays.Image.{Local, Second}
+use Rattle.relay_store.specs.Rests.{parted, later_local, later_second}
 
 -- ---- what a pair needs
 
@@ -36,120 +29,6 @@ use Rattle.relay_store.specs.Relays.Image.{Local, Second}
 pub need_is : (space : Space) (pair : Pair) → AreTexts pair
     → need space pair ≡ put_size space.frames pair
 need_is space pair texts = omega (arith, size_ample space.frames pair texts)
-
--- ---- hits
-
-paths_in : {S : Type 0} {G : Ghosts S} (store : Option (Store S G)) (hit : Hit) → stands_in store hit
-    → map (λ (f : File). f.0) (shows_in store hit).1 ≡ paths_of hit
-paths_in None hit stood = absurd stood
-paths_in (Some s) hit stood = shown_paths (text_of (frames_of s)) hit
-
--- ---- what an image says
-
--- what is noted of a store that has these pairs behind its first ones
-pub noted_says : (puts : Bool) (all first more : List Pair) (told : Option (List Pair))
-    → told ≡ Some (first ++ more) → (puts ≡ false → more ≡ []) → IsNotedBy puts first told
-    → says_by puts all first told ≡ Some (all ++ more)
-noted_says true all first more told is none noted = in_place_is all first more told is
-noted_says false all first more told is none noted =
-    absurd (noted refl (is ∙ ap (λ (l : List Pair). Some (first ++ l)) (none refl)
-    ∙ ap (λ (l : List Pair). Some l) (append-nil first)))
-
--- all that stands behind the first pairs of the store that is looked into first
-pub later_local : (p : Bool) (all local second : List Pair) (count : ℕ)
-    → count ≡ length (later p local second) → (p ≡ false → local ≡ [])
-    → p ≡ true → all ++ local ≡ all ++ take count (later p local second)
-later_local true all local second count is none puts =
-    ap (λ (l : List Pair). all ++ l) (sym (take_all count local (omega (arith, is))))
-later_local false all local second count is none puts = absurd (cc)
-
-pub later_second : (p q : Bool) (all local second : List Pair) (count : ℕ)
-    → count ≡ length (later p local second) → ((p && q) ≡ true → second ≡ local)
-    → q ≡ true → all ++ second ≡ all ++ take count (later p local second)
-later_second true q all local second count is same puts =
-    ap (λ (l : List Pair). all ++ l) (same puts ∙ sym (take_all count local (omega (arith, is))))
-later_second false q all local second count is same puts =
-    ap (λ (l : List Pair). all ++ l) (sym (take_all count second (omega (arith, is))))
-
--- where it is put into, all there is; where not, nothing is noted
-pub noted_all : (puts : Bool) (all first more pairs : List Pair) (told : Option (List Pair))
-    → told ≡ Some (first ++ more) → (puts ≡ false → more ≡ [])
-    → (puts ≡ true → all ++ more ≡ pairs) → IsNotedBy puts first told
-    → says_by puts all first told ≡ Some pairs
-noted_all true all first more pairs told is none ends noted =
-    in_place_is all first more told is ∙ ap (λ (l : List Pair). Some l) (ends refl)
-noted_all false all first more pairs told is none ends noted =
-    noted_says false all first more told is none noted
-    ∙ absurd (noted refl (is ∙ ap (λ (l : List Pair). Some (first ++ l)) (none refl)
-    ∙ ap (λ (l : List Pair). Some l) (append-nil first)))
-
--- ---- at rest
-
--- the first pairs and those behind them are all
-pub parted : {S : Type 0} {G : Ghosts S} (part : Part S G)
-    → pairs_of part ≡ first_of part ++ more_of part
-parted part = sym (take-append-drop part.first (pairs_of part))
-
--- since this moment nothing is left but what is left now
-abbrev pub OnlyNow : {S : Type 0} → Ghosts S → Type 0
-OnlyNow {S = S} G = (d : S) (c : List ℕ) → G.images_since d (G.moment d) c → G.images d c
-
-pub rest_in : {S : Type 0} {G : Ghosts S} → OnlyNow G → (store : Option (Store S G)) → G.tells
-    → (state_in store).whole ≡ true → (c : List ℕ) → images_in store (moment_in store) c
-    → told_as (state_in store).base c ≡ Some (state_in store).pairs
-rest_in only None told whole c left = absurd left
-rest_in only (Some s) told whole c left =
-    images_told (s.log.kept whole told) s.generation (s.same whole told) c
-    (only (device_of s) c left)
-
-module _ {S R : Type 0} {G : Ghosts S} {H : Ghosts R} where
-  pub paths_shown : (r : Relay S R G H) (hit : Hit) → G.tells × H.tells → stands r hit
-      → map (λ (f : File). f.0) (shows r hit).1 ≡ paths_of hit
-  paths_shown r hit told (inl (side, stood)) =
-      ap (λ (b : Bool). map (λ (f : File). f.0) (cond b (shows_in r.local.store hit) (shows_in r.second.store hit)).1)
-      (eq-eqb hit.side 0 side)
-      ∙ paths_in r.local.store hit stood
-  paths_shown r hit told (inr (side, stood)) =
-      ap (λ (n : ℕ). map (λ (f : File). f.0) (cond (n == 0) (shows_in r.local.store hit) (shows_in r.second.store hit)).1)
-      side
-      ∙ paths_in r.second.store hit stood
-
-  -- what the bytes say of a store of a relay that is whole
-  pub local_says : (r : Relay S R G H) → IsTrue r.whole → G.tells → H.tells
-      → (told : Option (List Pair)) → told ≡ Some (pairs_of r.local)
-      → IsNotedBy r.access.local_puts (first_of r.local) told
-      → says_by r.access.local_puts (firsts r.access.local_puts (first_of r.local) (first_of r.second)) (first_of r.local) told
-      ≡ Some (state_of r).pairs
-  local_says r whole t u told is noted =
-      let agree = r.agrees whole t u in
-      noted_all r.access.local_puts _ (first_of r.local) (more_of r.local) (state_of r).pairs told
-      (is ∙ ap (λ (l : List Pair). Some l) (parted r.local)) agree.local_none
-      (later_local r.access.local_puts _ (more_of r.local) (more_of r.second) r.added agree.counted agree.local_none) noted
-
-  pub second_says : (r : Relay S R G H) → IsTrue r.whole → G.tells → H.tells
-      → (told : Option (List Pair)) → told ≡ Some (pairs_of r.second)
-      → IsNotedBy r.access.second_puts (first_of r.second) told
-      → says_by r.access.second_puts (firsts r.access.local_puts (first_of r.local) (first_of r.second)) (first_of r.second) told
-      ≡ Some (state_of r).pairs
-  second_says r whole t u told is noted =
-      let agree = r.agrees whole t u in
-      noted_all r.access.second_puts _ (first_of r.second) (more_of r.second) (state_of r).pairs told
-      (is ∙ ap (λ (l : List Pair). Some l) (parted r.second)) agree.second_none
-      (later_second r.access.local_puts r.access.second_puts _ (more_of r.local) (more_of r.second) r.added agree.counted agree.same) noted
-
-  pub rests : OnlyNow G → OnlyNow H → (r : Relay S R G H) (image : Image G.tells H.tells)
-      → G.tells × H.tells → IsTrue (state_of r).whole → left_of r (moment_of r) image
-      → says (base_of r) image ≡ Some (state_of r).pairs
-  rests only also r (Local t u c) told whole left =
-      let parts = and_parts _ _ whole in
-      let both = and_parts _ _ parts.1 in
-      local_says r parts.0 t u (told_as (state_in r.local.store).base c)
-      (rest_in only r.local.store t both.0 c left.0) left.1
-  rests only also r (Second t u c) told whole left =
-      let parts = and_parts _ _ whole in
-      let both = and_parts _ _ parts.1 in
-      second_says r parts.0 t u (told_as (state_in r.second.store).base c)
-      (rest_in also r.second.store u both.1 c left.0) left.1
 
 -- ---- each device
 
@@ -182,7 +61,8 @@ goes_on false all first P told puts said = absurd (cc)
 says_none : (puts : Bool) (all first : List Pair) (P : List Pair → Type 0)
     (told : Option (List Pair)) → puts ≡ false → Says P (says_by puts all first told) → ⊥
 says_none true all first P told other said = absurd (cc)
-says_none false all first P told other (pairs, is, has) = let none : None ≡ Some pairs = is in absurd (cc)
+says_none false all first P told other
+    (pairs, is, has) = let none : None ≡ Some pairs = is in absurd (cc)
 
 -- an image of which the relay's images are known, where they are noted
 pub known_by : (puts : Bool) (all first : List Pair) (P : List Pair → Type 0)
@@ -214,15 +94,19 @@ module _ {S R : Type 0} {G : Ghosts S} {H : Ghosts R} (old new : Relay S R G H)
   local_device = record {
     later = leaves.later.first;
     each = λ c since. ⊎_elim (λ never. absurd never) (λ goes. goes)
-        (known_by old.access.local_puts _ (first_of old.local) P (told_as (base_of old).local.generation c) ⊥
+        (known_by old.access.local_puts _ (first_of old.local) P (told_as
+        (base_of old).local.generation c) ⊥
         (λ noted. inr (leaves.each (Local t u c)
-        (since, subst (λ (b : RelayBase G.tells H.tells). IsNoted b (Local t u c)) (sym same) noted))));
+        (since, subst (λ (b : RelayBase G.tells H.tells). IsNoted b (Local t u c))
+        (sym same) noted))));
     before = λ m c le since.
-        known_by old.access.local_puts _ (first_of old.local) P (told_as (base_of old).local.generation c) _
+        known_by old.access.local_puts _ (first_of old.local) P (told_as
+        (base_of old).local.generation c) _
         (λ noted. ⊎_elim (λ was. inl was.0) (λ said. inr said)
         (leaves.before (record { first = m; second = moment_in old.second.store }) (Local t u c)
         (record { first = le; second = omega arith })
-        (since, subst (λ (b : RelayBase G.tells H.tells). IsNoted b (Local t u c)) (sym same) noted)));
+        (since, subst (λ (b : RelayBase G.tells H.tells). IsNoted b (Local t u c))
+        (sym same) noted)));
   }
 
   -- and of the second one
@@ -232,15 +116,19 @@ module _ {S R : Type 0} {G : Ghosts S} {H : Ghosts R} (old new : Relay S R G H)
   second_device = record {
     later = leaves.later.second;
     each = λ c since. ⊎_elim (λ never. absurd never) (λ goes. goes)
-        (known_by old.access.second_puts _ (first_of old.second) P (told_as (base_of old).second.generation c) ⊥
+        (known_by old.access.second_puts _ (first_of old.second) P (told_as
+        (base_of old).second.generation c) ⊥
         (λ noted. inr (leaves.each (Second t u c)
-        (since, subst (λ (b : RelayBase G.tells H.tells). IsNoted b (Second t u c)) (sym same) noted))));
+        (since, subst (λ (b : RelayBase G.tells H.tells). IsNoted b (Second t u c))
+        (sym same) noted))));
     before = λ m c le since.
-        known_by old.access.second_puts _ (first_of old.second) P (told_as (base_of old).second.generation c) _
+        known_by old.access.second_puts _ (first_of old.second) P (told_as
+        (base_of old).second.generation c) _
         (λ noted. ⊎_elim (λ was. inl was.0) (λ said. inr said)
         (leaves.before (record { first = moment_in old.local.store; second = m }) (Second t u c)
         (record { first = omega arith; second = le })
-        (since, subst (λ (b : RelayBase G.tells H.tells). IsNoted b (Second t u c)) (sym same) noted)));
+        (since, subst (λ (b : RelayBase G.tells H.tells). IsNoted b (Second t u c))
+        (sym same) noted)));
   }
 
 -- ---- what the relay put
@@ -263,7 +151,8 @@ goes_first true all first more pairs added told none ends goes =
           ∙ ap (λ (l : List Pair). Some l) (sym (append_assoc first more (take n added))),
     )
 goes_first false all first more pairs added told none ends goes =
-    let empty : goes.more ≡ more ++ [] = goes.none refl ∙ sym (none refl) ∙ sym (append-nil more) in (
+    let empty : goes.more ≡ more ++ [] = goes.none refl ∙ sym (none refl)
+    ∙ sym (append-nil more) in (
       0,
       omega arith,
       goes.stands ∙ ap (λ (l : List Pair). Some (first ++ l)) empty
@@ -276,9 +165,11 @@ module _ {S R : Type 0} {G : Ghosts S} {H : Ghosts R} (old new : Relay S R G H)
     (leaves : Leaves moment_of left_of old new
     (λ image. IsFirstPart (state_of old).pairs added (says (base_of old) image))) where
   said : Leaves moment_of left_of old new
-      (λ image. Says (λ now. (n : ℕ) × (n ≤ length added) × (now ≡ (state_of old).pairs ++ take n added)) (says (base_of old) image))
+      (λ image. Says (λ now. (n : ℕ) × (n ≤ length added) × (now ≡ (state_of old).pairs
+      ++ take n added)) (says (base_of old) image))
   said = leaves_more moment_of left_of old new _ _ leaves
-      (λ image first. let (n, le, is) = first in ((state_of old).pairs ++ take n added, is, (n, le, refl)))
+      (λ image first. let (n, le, is) = first in ((state_of old).pairs
+      ++ take n added, is, (n, le, refl)))
 
   -- Of the local device: whatever a crash may have left at any moment is a store with the pairs that the
   -- local one had, and the first of those that were put into it.
@@ -287,11 +178,15 @@ module _ {S R : Type 0} {G : Ghosts S} {H : Ghosts R} (old new : Relay S R G H)
       (told_as (base_of old).local.generation c))
   local_images =
       let agree = old.agrees whole t u in
-      device.leaves_more moment_in images_in old.local.store new.local.store _ _ (local_device old new _ t u same said)
-      (λ c goes. subst (λ (l : List Pair). IsFirstPart l (into old.access.local_puts added) (told_as (base_of old).local.generation c))
+      device.leaves_more moment_in images_in old.local.store new.local.store _ _
+      (local_device old new _ t u same said)
+      (λ c goes. subst (λ (l : List Pair). IsFirstPart l (into old.access.local_puts added)
+      (told_as (base_of old).local.generation c))
       (sym (parted old.local))
-      (goes_first old.access.local_puts _ (first_of old.local) (more_of old.local) (state_of old).pairs added _ agree.local_none
-      (later_local old.access.local_puts _ (more_of old.local) (more_of old.second) old.added agree.counted agree.local_none) goes))
+      (goes_first old.access.local_puts _ (first_of old.local) (more_of old.local)
+      (state_of old).pairs added _ agree.local_none
+      (later_local old.access.local_puts _ (more_of old.local)
+      (more_of old.second) old.added agree.counted agree.local_none) goes))
 
   -- and of the second one
   pub second_images : LeavesOnly moment_in images_in old.second.store new.second.store
@@ -299,11 +194,15 @@ module _ {S R : Type 0} {G : Ghosts S} {H : Ghosts R} (old new : Relay S R G H)
       (told_as (base_of old).second.generation c))
   second_images =
       let agree = old.agrees whole t u in
-      device.leaves_more moment_in images_in old.second.store new.second.store _ _ (second_device old new _ t u same said)
-      (λ c goes. subst (λ (l : List Pair). IsFirstPart l (into old.access.second_puts added) (told_as (base_of old).second.generation c))
+      device.leaves_more moment_in images_in old.second.store new.second.store _ _
+      (second_device old new _ t u same said)
+      (λ c goes. subst (λ (l : List Pair). IsFirstPart l (into old.access.second_puts added)
+      (told_as (base_of old).second.generation c))
       (sym (parted old.second))
-      (goes_first old.access.second_puts _ (first_of old.second) (more_of old.second) (state_of old).pairs added _ agree.second_none
-      (later_second old.access.local_puts old.access.second_puts _ (more_of old.local) (more_of old.second) old.added agree.counted agree.same) goes))
+      (goes_first old.access.second_puts _ (first_of old.second) (more_of old.second)
+      (state_of old).pairs added _ agree.second_none
+      (later_second old.access.local_puts old.access.second_puts _ (more_of old.local)
+      (more_of old.second) old.added agree.counted agree.same) goes))
 
 -- ---- the stores of a relay that may be used
 
@@ -316,7 +215,8 @@ module _ {S R : Type 0} {G : Ghosts S} {H : Ghosts R} (r : Relay S R G H) (whole
       record {
         more = more_of r.local;
         stands = ap (λ (l : List Pair). Some l) (parted r.local);
-        relay = later_local r.access.local_puts _ (more_of r.local) (more_of r.second) r.added agree.counted agree.local_none;
+        relay = later_local r.access.local_puts _ (more_of r.local)
+        (more_of r.second) r.added agree.counted agree.local_none;
         none = agree.local_none;
       }
 
@@ -327,6 +227,7 @@ module _ {S R : Type 0} {G : Ghosts S} {H : Ghosts R} (r : Relay S R G H) (whole
       record {
         more = more_of r.second;
         stands = ap (λ (l : List Pair). Some l) (parted r.second);
-        relay = later_second r.access.local_puts r.access.second_puts _ (more_of r.local) (more_of r.second) r.added agree.counted agree.same;
+        relay = later_second r.access.local_puts r.access.second_puts _ (more_of r.local)
+        (more_of r.second) r.added agree.counted agree.same;
         none = agree.second_none;
       }

@@ -7,4 +7,5 @@ pub mod Agree
 pub mod Relays
 pub mod Calls
 pub mod Fronts
+pub mod Rests
 pub mod Laws

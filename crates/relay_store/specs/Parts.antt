@@ -1,11 +1,13 @@
 -- One of the stores of a relay: the pairs that it had at first, and what it is as a cache.
-use Rattle.std.specs.Prelude.{◌≡◌, ◌≤◌, ℕ, Bool, true, false, List, [], ◌++◌, take, drop, length, Option, Result, IfOk, IfErr, OnOk}
+use Rattle.std.specs.Prelude.{◌≡◌, ◌≤◌, ℕ, Bool, true, false, List, [], ◌++◌, take, drop, length}
+use Rattle.std.specs.Prelude.{Option, Result, IfOk, IfErr, OnOk}
 use Rattle.rel_path.specs.Causes.{Counts}
 use Rattle.store_dev.specs.declared.device.StoreDevice.{Ghosts}
 use Rattle.cache_api.specs.declared.error.CacheErr.{CacheErr}
 use Rattle.cache_api.specs.declared.hit.Hit.{Hit}
 use Rattle.cache_api.specs.Artifacts.{Artifact}
-use Rattle.cache_api.specs.Cache.{CacheState, CacheReads, HitsStay, Keeps, ArePut, StaysWhole, ample, is_fault, IsFindErr}
+use Rattle.cache_api.specs.Cache.{CacheState, CacheReads, HitsStay, Keeps, ArePut, StaysWhole}
+use Rattle.cache_api.specs.Cache.{ample, is_fault, IsFindErr}
 use Rattle.cache_api.specs.Moments.{Moment, Leaves}
 use Rattle.cache_api.specs.Pairs.{Pair, IsFirstPart}
 use Rattle.cache_api.specs.declared.puts.Puts.{Puts}
@@ -14,7 +16,8 @@ use Rattle.artifact_store.specs.Pairs.{told_as}
 use Rattle.relay_store.specs.declared.part.Part.{Part}
 use Rattle.relay_store.specs.Access.{is_there}
 use Rattle.relay_store.specs.Puts.{Space, all_stored}
-use Rattle.relay_store.specs.Stores.{state_in, frames_in, stores_in, cost_in, moment_in, images_in, stands_in, shows_in}
+use Rattle.relay_store.specs.Stores.{state_in, frames_in, stores_in, cost_in, moment_in, images_in}
+use Rattle.relay_store.specs.Stores.{stands_in, shows_in}
 
 abbrev pub pairs_of : {S : Type 0} {G : Ghosts S} → Part S G → List Pair
 pairs_of part = (state_in part.store).pairs

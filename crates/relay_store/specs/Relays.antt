@@ -1,5 +1,6 @@
 -- A relay as its contracts see it.
-use Rattle.std.specs.Prelude.{◌≡◌, ◌≢◌, ◌⊎◌, ℕ, ◌+◌, min, Bool, true, false, ◌&&◌, ◌==◌, if◌then◌else◌, List, [], ◌∷◌, ◌++◌, take, Option, Some, None}
+use Rattle.std.specs.Prelude.{◌≡◌, ◌≢◌, ◌⊎◌, ℕ, ◌+◌, min, Bool, true, false, ◌&&◌, ◌==◌}
+use Rattle.std.specs.Prelude.{if◌then◌else◌, List, [], ◌∷◌, ◌++◌, take, Option, Some, None}
 use Rattle.store_dev.specs.declared.device.StoreDevice.{Ghosts}
 use Rattle.cache_api.specs.declared.hit.Hit.{Hit}
 use Rattle.cache_api.specs.declared.puts.Put.{Put}

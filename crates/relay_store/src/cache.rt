@@ -22,7 +22,7 @@ use store_dev::StoreDevice;
 impl<S: StoreDevice, R: StoreDevice> Cache for Relay<S, R> {
     ghost use Rattle.relay_store.specs.Relays.{RelayBase, Image, stores, moment_of, left_of, says};
     ghost use Rattle.relay_store.specs.Relays as relay;
-    ghost use Rattle.relay_store.specs.Laws.{paths_shown, rests};
+    ghost use Rattle.relay_store.specs.Rests.{paths_shown, rests};
 
     ghost tells = { S.tells × R.tells };
 
@@ -48,7 +48,8 @@ impl<S: StoreDevice, R: StoreDevice> Cache for Relay<S, R> {
 
     ghost paths = { λ r hit told stood. paths_shown r hit told stood };
 
-    ghost at_rest = { λ r image told whole left. rests S.only_now R.only_now r image told whole left };
+    ghost at_rest = { λ r image told whole left.
+        rests S.only_now R.only_now r image told whole left };
 
     /// The store is asked first whose pairs stand last, and the other one where it has none for the key.
     fn lookup_keyed(

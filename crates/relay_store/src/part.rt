@@ -22,13 +22,15 @@ impl<S: StoreDevice> Part<S> {
     ghost use Rattle.codes.specs.Views.{found_as};
     ghost use Rattle.cache_api.specs.Cache.{ample};
     ghost use Rattle.cache_api.specs.Found.{found};
-    ghost use Rattle.cache_api.specs.Hits.{paths_ascend, owns_paths, file_spans, span_count, bytes_at};
+    ghost use Rattle.cache_api.specs.Hits.{paths_ascend, owns_paths, file_spans, span_count};
+    ghost use Rattle.cache_api.specs.Hits.{bytes_at};
     ghost use Rattle.cache_api.specs.Keys.{text_of as key_text, new_pairs};
     ghost use Rattle.cache_api.specs.Reading.{artifact_in};
     ghost use Rattle.pair_writer.specs.Putting.{new_pair};
     ghost use Rattle.relay_store.specs.Access.{is_there};
     ghost use Rattle.relay_store.specs.Puts.{takes};
-    ghost use Rattle.relay_store.specs.Parts.{state_of, pairs_of, more_of, cost_of, stands, shows, space_of, IsAsked, HasRoom, AllFit, IsPutInto};
+    ghost use Rattle.relay_store.specs.Parts.{state_of, pairs_of, more_of, cost_of, stands, shows};
+    ghost use Rattle.relay_store.specs.Parts.{space_of, IsAsked, HasRoom, AllFit, IsPutInto};
 
     /// Of a store with all the pairs that it has now.
     pub(crate) fn new(store: Option<Store<S>>) -> Part<S>

@@ -3,7 +3,7 @@ use Rattle.std.proofs.lemmas.List.{append-nil}
 use Rattle.cache_api.specs.Pairs.{Pair}
 use Rattle.relay_store.specs.Stores.{state_in}
 use Rattle.relay_store.specs.Parts.{first_of}
-use Rattle.relay_store.specs.Laws.{parted}
+use Rattle.relay_store.specs.Rests.{parted}
 use Rattle.relay_store.proofs.relay.Relay.new.Goals as goal
 
 pub returns-clause-local_pairs : goal.returns-clause-local_pairs
