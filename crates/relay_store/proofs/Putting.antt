@@ -1,7 +1,8 @@
 -- Calls that put pairs, one after another.
 use Rattle.std.proofs.Common.{◌≡◌, ℕ, zero, suc, ◌+◌, ◌≤◌, Bool, true, false, List, [], ◌∷◌, ◌++◌, length, take, drop, Option, Some, Ok, Err, refl, sym, ◌∙◌, ap, subst, arith, append_assoc, length-append}
 use Rattle.std.specs.Prelude.{◌&&◌, ◌||◌, IsTrue, Result, IfOk, IfErr, OnOk, OnErr}
-use Rattle.std.proofs.lemmas.List.{append-nil, take_all, take-append-le, drop-append-le}
+use Rattle.std.proofs.lemmas.List.{append-nil, take_all, take_at, take-append-le, drop-append-le}
+use Rattle.std.proofs.lemmas.Bool.{and_parts}
 use Rattle.rel_path.specs.Causes.{Counts}
 use Rattle.store_dev.specs.declared.device.StoreDevice.{Ghosts}
 use Rattle.cache_api.specs.declared.error.CacheErr.{CacheErr}
@@ -16,7 +17,7 @@ use Rattle.relay_store.specs.declared.part.Part.{Part}
 use Rattle.relay_store.specs.declared.relay.Relay.{Relay}
 use Rattle.relay_store.specs.Stores.{state_in}
 use Rattle.relay_store.specs.Parts.{first_of, more_of, pairs_of, IsRead, into, MayGrow}
-use Rattle.relay_store.specs.Agree.{firsts, later}
+use Rattle.relay_store.specs.Agree.{firsts, later, Agree, Leads}
 use Rattle.relay_store.specs.Relays.{RelayBase, first_pairs, says, says_by, IsNotedBy, base_of, state_of, stands, shows, later_of, moment_of, left_of}
 use Rattle.relay_store.specs.Calls.{IsPutting}
 use Rattle.relay_store.specs.Rests.{OnlyNow, parted, noted_all, later_local, later_second, rests, local_says, second_says}
@@ -241,7 +242,7 @@ ok_three (Err e) to a b c = tt
 
 -- ---- what stands behind the first pairs
 
-more_grown : {S : Type 0} {G : Ghosts S} (old new : Part S G) (more : List Pair) → G.tells
+pub more_grown : {S : Type 0} {G : Ghosts S} (old new : Part S G) (more : List Pair) → G.tells
     → new.first ≡ old.first → pairs_of new ≡ pairs_of old ++ more → more_of new ≡ more_of old ++ more
 more_grown old new more told first is =
     (λ i. drop (first i) (is i)) ∙ drop-append-le old.first (pairs_of old) more (old.few told)
@@ -377,3 +378,56 @@ all_after (Ok v) before added now is same = is
 all_after (Err Failed) before added now is same = (0, omega arith, same ∙ sym (append-nil before))
 all_after (Err Full) before added now is same = same
 all_after (Err OutOfMemory) before added now is same = same
+
+-- ---- the second store leads
+
+pub leads_by : (l k s t x z : List Pair) → k ≡ l ++ x → t ≡ s ++ (x ++ z) → s ≡ l → Leads k t
+leads_by l k s t x z at is same =
+    let all : t ≡ k ++ z =
+    is ∙ ap (λ (m : List Pair). m ++ (x ++ z)) same ∙ sym (append_assoc l x z)
+    ∙ ap (λ (m : List Pair). m ++ z) (sym at) in
+    ap (take (length k)) all ∙ take_at k z (length k) refl
+
+pub leads_self : (l s : List Pair) → s ≡ l → Leads l s
+leads_self l s same = ap (take (length l)) same ∙ take_all (length l) l (omega arith)
+
+-- ---- both have the same behind a put
+
+into_true : (b : Bool) (news : List Pair) → b ≡ true → into b news ≡ news
+into_true true news is = refl
+into_true false news is = absurd (cc)
+
+into_false : (b : Bool) (news : List Pair) → b ≡ false → into b news ≡ []
+into_false true news is = absurd (cc)
+into_false false news is = refl
+
+pub counted_true : (b : Bool) (n : ℕ) (local second : List Pair) → b ≡ true → n ≡ length local
+    → n ≡ length (later b local second)
+counted_true true n local second is x = x
+counted_true false n local second is x = absurd (cc)
+
+pub counted_false : (b : Bool) (n : ℕ) (local second : List Pair) → b ≡ false → n ≡ length second
+    → n ≡ length (later b local second)
+counted_false true n local second is x = absurd (cc)
+counted_false false n local second is x = x
+
+pub agree_grown : {S R : Type 0} {G : Ghosts S} {H : Ghosts R} (old : Relay S R G H) (local : Part S G)
+    (second : Part R H) (count : ℕ) (news : List Pair) → IsTrue old.whole → G.tells → H.tells
+    → local.first ≡ old.local.first → second.first ≡ old.second.first
+    → pairs_of local ≡ pairs_of old.local ++ into old.access.local_puts news
+    → pairs_of second ≡ pairs_of old.second ++ into old.access.second_puts news
+    → count ≡ length (later old.access.local_puts (more_of local) (more_of second))
+    → Agree old.access count local second
+agree_grown old local second count news whole t u lf sf l s counted =
+    let agree = old.agrees whole t u in
+    let ml = more_grown old.local local _ t lf l in
+    let ms = more_grown old.second second _ u sf s in
+    record {
+      local_none = λ other. ml ∙ (λ i. agree.local_none other i ++ into_false old.access.local_puts news other i);
+      second_none = λ other. ms ∙ (λ i. agree.second_none other i ++ into_false old.access.second_puts news other i);
+      same = λ both.
+          let puts = and_parts _ _ both in
+          ms ∙ (λ i. agree.same both i ++ into_true old.access.second_puts news puts.1 i)
+          ∙ sym (ml ∙ ap (λ (m : List Pair). more_of old.local ++ m) (into_true old.access.local_puts news puts.0));
+      counted = counted;
+    }

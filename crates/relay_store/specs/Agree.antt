@@ -1,5 +1,5 @@
 -- What the two stores of a relay have behind the pairs that they had at first.
-use Rattle.std.specs.Prelude.{◌≡◌, ℕ, Bool, true, false, ◌&&◌, if◌then◌else◌, List, [], ◌++◌}
+use Rattle.std.specs.Prelude.{◌≡◌, ℕ, Bool, true, false, ◌&&◌, if◌then◌else◌, List, [], ◌++◌, take}
 use Rattle.std.specs.Prelude.{length}
 use Rattle.store_dev.specs.declared.device.StoreDevice.{Ghosts}
 use Rattle.cache_api.specs.Pairs.{Pair}
@@ -23,3 +23,8 @@ pub record Agree {S R : Type 0} {G : Ghosts S} {H : Ghosts R} (access : Access) 
   pub second_none : access.second_puts ≡ false → more_of second ≡ []
   pub same : (access.local_puts && access.second_puts) ≡ true → more_of second ≡ more_of local
   pub counted : count ≡ length (later access.local_puts (more_of local) (more_of second))
+
+-- What the local store has behind its first pairs, the second one has too, in the same order: pairs are
+-- put into it first.
+abbrev pub Leads : List Pair → List Pair → Type 0
+Leads local second = take (length local) second ≡ local

@@ -140,6 +140,13 @@ module _ {S R : Type 0} {G : Ghosts S} {H : Ghosts R} where
 
   -- ---- the stores
 
+  -- what they have behind their first pairs, which is more than was counted where a call failed
+  abbrev pub local_more : Relay S R G H → List Pair
+  local_more r = part.more_of r.local
+
+  abbrev pub second_more : Relay S R G H → List Pair
+  second_more r = part.more_of r.second
+
   abbrev pub stores_of : Relay S R G H → Option (Store S G) × Option (Store R H)
   stores_of r = (r.local.store, r.second.store)
 

@@ -1,11 +1,12 @@
 // Adding pairs.
-ghost use Rattle.std.specs.Prelude.{◌≡◌, ◌+◌, true, IsTrue, IfOk, IfErr};
+ghost use Rattle.std.specs.Prelude.{◌≡◌, ◌+◌, ◌&&◌, true, IsTrue, IfOk, IfErr};
 ghost use Rattle.rel_path.specs.Causes.{Counts};
 ghost use Rattle.cache_api.specs.Cache.{is_fault, IsFindErr, ArePut};
 ghost use Rattle.cache_api.specs.Keys.{new_pairs};
 ghost use Rattle.relay_store.specs.Access.{IsAccessOf};
 ghost use Rattle.relay_store.specs.Puts.{all_stored};
-ghost use Rattle.relay_store.specs.Parts.{state_of as part_state, AllFit, MayGrow};
+ghost use Rattle.relay_store.specs.Parts.{state_of as part_state, more_of, AllFit, MayGrow};
+ghost use Rattle.relay_store.specs.Agree.{Leads};
 ghost use Rattle.relay_store.specs.Relays.{room_by};
 
 use crate::Relay;
@@ -186,6 +187,9 @@ fn put_into<S: StoreDevice, R: StoreDevice>(
     ensures local { MayGrow access.local_puts local.old local.new (new_pairs pairs.now) result }
     ensures second { MayGrow access.second_puts second.old second.new (new_pairs pairs.now)
         result }
+    ensures leads { S.tells → R.tells → (access.local_puts && access.second_puts) ≡ true
+        → more_of second.old ≡ more_of local.old
+        → Leads (more_of local.new) (more_of second.new) }
     ensures answers { IfErr result IsFindErr }
     ensures cause { Counts is_fault ((part_state local.old).faults + (part_state second.old).faults)
         ((part_state local.new).faults + (part_state second.new).faults) result }

@@ -1,7 +1,8 @@
 // A cache over two stores: making it and taking it apart.
-ghost use Rattle.std.specs.Prelude.{IsTrue};
+ghost use Rattle.std.specs.Prelude.{◌≡◌, ◌&&◌, true, IsTrue};
 ghost use Rattle.relay_store.specs.Access.{IsAccessOf};
-ghost use Rattle.relay_store.specs.Agree.{Agree};
+ghost use Rattle.relay_store.specs.Agree.{Agree, Leads};
+ghost use Rattle.relay_store.specs.Parts.{more_of};
 
 use crate::part::Part;
 use artifact_store::Store;
@@ -29,12 +30,14 @@ pub struct Relay<S: StoreDevice, R: StoreDevice> {
     pub(crate) whole: bool,
     pub ghost serves: { IsAccessOf access local.store second.store },
     pub ghost agrees: { IsTrue whole → S.tells → R.tells → Agree access added local second },
+    pub ghost leads: { S.tells → R.tells → (access.local_puts && access.second_puts) ≡ true
+        → Leads (more_of local) (more_of second) },
 }
 
 impl<S: StoreDevice, R: StoreDevice> Relay<S, R> {
-    ghost use Rattle.std.specs.Prelude.{◌≡◌};
+    ghost use Rattle.std.specs.Prelude.{◌++◌, Some};
     ghost use Rattle.relay_store.specs.Stores.{state_in};
-    ghost use Rattle.relay_store.specs.Relays.{first_pairs, state_of, stores_of, all_pairs};
+    ghost use Rattle.relay_store.specs.Relays.{first_pairs, state_of, stores_of, all_pairs, local_more, second_more};
     ghost use Rattle.relay_store.specs.Laws.{GoesOn};
 
     /// A cache over these stores. A store is there exactly where it is read, what is put into is also read, and one at
@@ -77,6 +80,14 @@ impl<S: StoreDevice, R: StoreDevice> Relay<S, R> {
             → GoesOn (state_of self).base.access.second_puts
             (first_pairs (state_of self).base t u) ((state_of self).base.second.first u)
             (λ pairs. pairs ≡ (state_of self).pairs) (Some (state_in result.1).pairs) }
+        // Whatever its calls answered, each store has its first pairs, and the second one leads.
+        ensures local_more { (told : S.tells) → (state_in result.0).pairs
+            ≡ (state_of self).base.local.first told ++ local_more self }
+        ensures second_more { (told : R.tells) → (state_in result.1).pairs
+            ≡ (state_of self).base.second.first told ++ second_more self }
+        ensures leads { S.tells → R.tells → ((state_of self).base.access.local_puts
+            && (state_of self).base.access.second_puts) ≡ true
+            → Leads (local_more self) (second_more self) }
     {
         (self.local.store, self.second.store)
     }
