@@ -1,4 +1,4 @@
--- What the calls of a relay that put pairs leave, and how they follow one another.
+-- What the calls of a relay leave that put pairs.
 use Rattle.std.specs.Prelude.{◌≡◌, List, ◌++◌, Result, IfErr, OnOk}
 use Rattle.rel_path.specs.Causes.{Counts}
 use Rattle.store_dev.specs.declared.device.StoreDevice.{Ghosts}

@@ -1,12 +1,15 @@
 -- What the images of a relay say of each of its devices, and what a pair needs.
 use Rattle.std.proofs.Common.{◌≡◌, ◌⊎◌, inl, inr, ⊎_elim, ℕ, ◌≤◌, Bool, true, false, List, []}
 use Rattle.std.proofs.Common.{◌++◌, length, take, Option, Some, None, refl, sym, ◌∙◌, ap}
-use Rattle.std.proofs.Common.{subst, arith, append_assoc}
-use Rattle.std.specs.Prelude.{IsTrue}
+use Rattle.std.proofs.Common.{◌∷◌, ◌<◌, cond, subst, arith, append_assoc}
+use Rattle.std.specs.Prelude.{◌↔◌, ◌&&◌, if◌then◌else◌, IsTrue}
+use Rattle.std.proofs.lemmas.Bool.{leb-false, lt-leb}
 use Rattle.std.proofs.lemmas.List.{append-nil, append_cancel_left}
 use Rattle.store_dev.specs.Device.{LeavesOnly}
 use Rattle.store_dev.specs.Moments as device
 use Rattle.store_dev.specs.declared.device.StoreDevice.{Ghosts}
+use Rattle.cache_api.specs.declared.puts.Put.{Put}
+use Rattle.cache_api.specs.declared.puts.Put.TheVariants.{Stored, Full}
 use Rattle.cache_api.specs.Moments.{Leaves, leaves_more}
 use Rattle.cache_api.specs.Pairs.{Pair, IsFirstPart}
 use Rattle.pair_frames.specs.Laws.{AreTexts}
@@ -16,10 +19,10 @@ use Rattle.artifact_store.specs.Pairs.{told_as}
 use Rattle.relay_store.specs.declared.relay.Relay.{Relay}
 use Rattle.relay_store.specs.Fronts.{in_place_was, is_first}
 use Rattle.relay_store.specs.Stores.{moment_in, images_in}
-use Rattle.relay_store.specs.Parts.{first_of, more_of, pairs_of, into}
-use Rattle.relay_store.specs.Puts.{Space, need}
+use Rattle.relay_store.specs.Parts.{first_of, more_of, pairs_of, space_of, into}
+use Rattle.relay_store.specs.Puts.{Space, need, takes, puts_in}
 use Rattle.relay_store.specs.Relays.{RelayBase, first_pairs, says_by, says, IsNotedBy}
-use Rattle.relay_store.specs.Relays.{IsNoted, base_of, state_of, moment_of, left_of}
+use Rattle.relay_store.specs.Relays.{stores, IsNoted, base_of, state_of, moment_of, left_of}
 use Rattle.relay_store.specs.Relays.Image.{Local, Second}
 use Rattle.relay_store.specs.Rests.{parted, later_local, later_second}
 
@@ -29,6 +32,74 @@ use Rattle.relay_store.specs.Rests.{parted, later_local, later_second}
 pub need_is : (space : Space) (pair : Pair) → AreTexts pair
     → need space pair ≡ put_size space.frames pair
 need_is space pair texts = omega (arith, size_ample space.frames pair texts)
+
+-- where a pair is put, its frames pass the room
+abbrev pub Passes : Bool → Space → Pair → Type 0
+Passes puts space pair = (puts ≡ true) × (space.room < put_size space.frames pair)
+
+-- the answer, by whether it fits in the one and in the other
+abbrev answer : Bool → List Put
+answer fits = if fits then Stored ∷ [] else Full ∷ []
+
+fits_not : (space : Space) (pair : Pair) → need space pair ≡ put_size space.frames pair
+    → takes pair space ≡ false → space.room < put_size space.frames pair
+fits_not space pair size is =
+    omega (arith, leb-false (need space pair) space.room is, size)
+
+not_fits : (space : Space) (pair : Pair) → need space pair ≡ put_size space.frames pair
+    → space.room < put_size space.frames pair → takes pair space ≡ false
+not_fits space pair size lt = lt-leb (need space pair) space.room (omega (arith, lt, size))
+
+full_not : (x y : Bool) → answer (x && (y && true)) ≡ Full ∷ [] → (x ≡ false) ⊎ (y ≡ false)
+full_not true true e = absurd (cc)
+full_not true false e = inr refl
+full_not false y e = inl refl
+
+full_alone : (x : Bool) → answer (x && true) ≡ Full ∷ [] → x ≡ false
+full_alone true e = absurd (cc)
+full_alone false e = refl
+
+second_false : (x y : Bool) → y ≡ false → answer (x && (y && true)) ≡ Full ∷ []
+second_false true y e = ap (λ b. answer (b && true)) e
+second_false false y e = refl
+
+full_by : (p q : Bool) (a b : Space) (pair : Pair) → need a pair ≡ put_size a.frames pair
+    → need b pair ≡ put_size b.frames pair
+    → puts_in ((cond p (a ∷ []) []) ++ (cond q (b ∷ []) [])) (pair ∷ []) ≡ Full ∷ []
+    → Passes p a pair ⊎ Passes q b pair
+full_by true true a b pair x y e = ⊎_elim (λ l. inl (refl, fits_not a pair x l))
+    (λ s. inr (refl, fits_not b pair y s)) (full_not (takes pair a) (takes pair b) e)
+full_by true false a b pair x y e = inl (refl, fits_not a pair x (full_alone (takes pair a) e))
+full_by false true a b pair x y e = inr (refl, fits_not b pair y (full_alone (takes pair b) e))
+full_by false false a b pair x y e = absurd (cc)
+
+by_full : (p q : Bool) (a b : Space) (pair : Pair) → need a pair ≡ put_size a.frames pair
+    → need b pair ≡ put_size b.frames pair → Passes p a pair ⊎ Passes q b pair
+    → puts_in ((cond p (a ∷ []) []) ++ (cond q (b ∷ []) [])) (pair ∷ []) ≡ Full ∷ []
+by_full true true a b pair x y (inl l) =
+    ap (λ c. answer (c && (takes pair b && true))) (not_fits a pair x l.1)
+by_full true true a b pair x y (inr s) =
+    second_false (takes pair a) (takes pair b) (not_fits b pair y s.1)
+by_full true false a b pair x y (inl l) = ap (λ c. answer (c && true)) (not_fits a pair x l.1)
+by_full true false a b pair x y (inr s) = absurd (cc s.0)
+by_full false true a b pair x y (inl l) = absurd (cc l.0)
+by_full false true a b pair x y (inr s) = ap (λ c. answer (c && true)) (not_fits b pair y s.1)
+by_full false false a b pair x y (inl l) = absurd (cc l.0)
+by_full false false a b pair x y (inr s) = absurd (cc s.0)
+
+-- For texts there is no room exactly where the frames of the pair pass that of a store that is put into.
+pub full_is : {S R : Type 0} {G : Ghosts S} {H : Ghosts R} (r : Relay S R G H) (pair : Pair)
+    → AreTexts pair → stores r (pair ∷ []) ≡ Full ∷ []
+    ↔ (Passes r.access.local_puts (space_of r.local) pair
+    ⊎ Passes r.access.second_puts (space_of r.second) pair)
+full_is r pair texts =
+    let local = need_is (space_of r.local) pair texts in
+    let second = need_is (space_of r.second) pair texts in (
+      full_by r.access.local_puts r.access.second_puts (space_of r.local) (space_of r.second) pair
+          local second,
+      by_full r.access.local_puts r.access.second_puts (space_of r.local) (space_of r.second) pair
+          local second,
+    )
 
 -- ---- each device
 
@@ -96,17 +167,21 @@ module _ {S R : Type 0} {G : Ghosts S} {H : Ghosts R} (old new : Relay S R G H)
     each = λ c since. ⊎_elim (λ never. absurd never) (λ goes. goes)
         (known_by old.access.local_puts _ (first_of old.local) P (told_as
         (base_of old).local.generation c) ⊥
-        (λ noted. inr (leaves.each (Local t u c)
-        (since, subst (λ (b : RelayBase G.tells H.tells). IsNoted b (Local t u c))
-        (sym same) noted))));
+        (λ noted. inr (leaves.each (Local t u c) (
+          since,
+          subst (λ (b : RelayBase G.tells H.tells). IsNoted b (Local t u c))
+              (sym same) noted,
+        ))));
     before = λ m c le since.
         known_by old.access.local_puts _ (first_of old.local) P (told_as
         (base_of old).local.generation c) _
         (λ noted. ⊎_elim (λ was. inl was.0) (λ said. inr said)
         (leaves.before (record { first = m; second = moment_in old.second.store }) (Local t u c)
-        (record { first = le; second = omega arith })
-        (since, subst (λ (b : RelayBase G.tells H.tells). IsNoted b (Local t u c))
-        (sym same) noted)));
+        (record { first = le; second = omega arith }) (
+          since,
+          subst (λ (b : RelayBase G.tells H.tells). IsNoted b (Local t u c))
+              (sym same) noted,
+        )));
   }
 
   -- and of the second one
@@ -118,17 +193,21 @@ module _ {S R : Type 0} {G : Ghosts S} {H : Ghosts R} (old new : Relay S R G H)
     each = λ c since. ⊎_elim (λ never. absurd never) (λ goes. goes)
         (known_by old.access.second_puts _ (first_of old.second) P (told_as
         (base_of old).second.generation c) ⊥
-        (λ noted. inr (leaves.each (Second t u c)
-        (since, subst (λ (b : RelayBase G.tells H.tells). IsNoted b (Second t u c))
-        (sym same) noted))));
+        (λ noted. inr (leaves.each (Second t u c) (
+          since,
+          subst (λ (b : RelayBase G.tells H.tells). IsNoted b (Second t u c))
+              (sym same) noted,
+        ))));
     before = λ m c le since.
         known_by old.access.second_puts _ (first_of old.second) P (told_as
         (base_of old).second.generation c) _
         (λ noted. ⊎_elim (λ was. inl was.0) (λ said. inr said)
         (leaves.before (record { first = moment_in old.local.store; second = m }) (Second t u c)
-        (record { first = omega arith; second = le })
-        (since, subst (λ (b : RelayBase G.tells H.tells). IsNoted b (Second t u c))
-        (sym same) noted)));
+        (record { first = omega arith; second = le }) (
+          since,
+          subst (λ (b : RelayBase G.tells H.tells). IsNoted b (Second t u c))
+              (sym same) noted,
+        )));
   }
 
 -- ---- what the relay put
@@ -168,8 +247,12 @@ module _ {S R : Type 0} {G : Ghosts S} {H : Ghosts R} (old new : Relay S R G H)
       (λ image. Says (λ now. (n : ℕ) × (n ≤ length added) × (now ≡ (state_of old).pairs
       ++ take n added)) (says (base_of old) image))
   said = leaves_more moment_of left_of old new _ _ leaves
-      (λ image first. let (n, le, is) = first in ((state_of old).pairs
-      ++ take n added, is, (n, le, refl)))
+      (λ image first. let (n, le, is) = first in (
+        (state_of old).pairs
+            ++ take n added,
+        is,
+        (n, le, refl),
+      ))
 
   -- Of the local device: whatever a crash may have left at any moment is a store with the pairs that the
   -- local one had, and the first of those that were put into it.
@@ -216,7 +299,7 @@ module _ {S R : Type 0} {G : Ghosts S} {H : Ghosts R} (r : Relay S R G H) (whole
         more = more_of r.local;
         stands = ap (λ (l : List Pair). Some l) (parted r.local);
         relay = later_local r.access.local_puts _ (more_of r.local)
-        (more_of r.second) r.added agree.counted agree.local_none;
+            (more_of r.second) r.added agree.counted agree.local_none;
         none = agree.local_none;
       }
 
@@ -228,6 +311,6 @@ module _ {S R : Type 0} {G : Ghosts S} {H : Ghosts R} (r : Relay S R G H) (whole
         more = more_of r.second;
         stands = ap (λ (l : List Pair). Some l) (parted r.second);
         relay = later_second r.access.local_puts r.access.second_puts _ (more_of r.local)
-        (more_of r.second) r.added agree.counted agree.same;
+            (more_of r.second) r.added agree.counted agree.same;
         none = agree.second_none;
       }

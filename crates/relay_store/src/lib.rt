@@ -15,13 +15,16 @@
 //! let (local, second) = relay.parts();
 //! ```
 //!
-//! Errors are those of a cache. `Failed` comes where one of the devices failed, and the sum of their counts tells it.
-//! After it, and where only one of two stores found the memory to take pairs, the relay may no longer be used: the stores
-//! are to be opened again.
+//! Where there is ample room for all pairs of a call, each store takes them in one append. Else they are put one after
+//! another, each by what its frames need behind those before it.
+//!
+//! Errors are those of a cache. `Failed` comes where one of the devices failed, which the sum of their counts tells. After
+//! an error the pairs of the relay are as before. Where the second store had taken some already, or a device failed, the
+//! relay may no longer be used: the stores are to be opened again, and may have more.
 //!
 //! `specs/` says when stores serve an access (`Access`), what a store that may be missing is (`Stores`, `Parts`), what the
 //! two have behind their first pairs (`Behind`, `Agree`), which pairs are put (`Puts`), what a relay is to its callers
-//! (`Relays`), and what its images say of each device (`Laws`).
+//! (`Relays`), what its calls leave (`Calls`, `Rests`), and what its images say of each device (`Laws`).
 #![tactic(auto)]
 
 mod cache;

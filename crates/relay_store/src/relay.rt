@@ -65,6 +65,13 @@ impl<S: StoreDevice, R: StoreDevice> Relay<S, R> {
         }
     }
 
+    /// Whether it may be used. It is so from the start until a call that puts pairs fails.
+    pub fn whole(&self) -> bool
+        ensures { result ≡ (state_of self.now).whole }
+    {
+        self.whole && (self.local.whole() && self.second.whole())
+    }
+
     /// The stores, as the last call left them.
     pub fn parts(self) -> (Option<Store<S>>, Option<Store<R>>)
         ensures stores { result ≡ stores_of self }

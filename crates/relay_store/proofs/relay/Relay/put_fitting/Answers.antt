@@ -39,7 +39,7 @@ invariant_of-self-clause-agrees g c whole t u =
     agree_grown r l s c.if-self.self (new_pairs c.args.pairs.now) whole t u x.local.grown.first x.second.grown.first (x.local.all t) (x.second.all u)
     (elim c.if-self.branch [
       | then-self w ↦ counted_true r.access.local_puts c.if-self.self (more_of l) (more_of s) w.if-self.true
-      (w.self-is ∙ w.added-self.ensures t (x.local.whole ∙ both.0))
+          (w.self-is ∙ w.added-self.ensures t (x.local.whole ∙ both.0))
       | else-self w ↦ counted_false r.access.local_puts c.if-self.self (more_of l) (more_of s) w.if-self.false
-      (w.self-is ∙ w.added-self-else-self.ensures u (x.second.whole ∙ both.1))
+          (w.self-is ∙ w.added-self-else-self.ensures u (x.second.whole ∙ both.1))
     ])
