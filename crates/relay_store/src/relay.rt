@@ -37,7 +37,8 @@ pub struct Relay<S: StoreDevice, R: StoreDevice> {
 impl<S: StoreDevice, R: StoreDevice> Relay<S, R> {
     ghost use Rattle.std.specs.Prelude.{◌++◌, Some};
     ghost use Rattle.relay_store.specs.Stores.{state_in};
-    ghost use Rattle.relay_store.specs.Relays.{first_pairs, state_of, stores_of, all_pairs, local_more, second_more};
+    ghost use Rattle.relay_store.specs.Relays.{first_pairs, state_of, stores_of, all_pairs};
+    ghost use Rattle.relay_store.specs.Relays.{local_more, second_more};
     ghost use Rattle.relay_store.specs.Laws.{GoesOn};
 
     /// A cache over these stores. A store is there exactly where it is read, what is put into is also read, and one at
