@@ -44,8 +44,7 @@ returns-else-not-branch-clause-putting g c =
     let y = c.in_ok-takes-in-true-true.ensures.asked in
     let result = c.takes-in-true-true.result in
     putting_asked r _ result refl refl refl parts.0 x.read y.read
-    (ok_whole result _ _ x.whole)
-    (on_ok {P = (state_of c.takes.new.self).whole ≡ (state_of r.second).whole} result y.whole) x.answers
+    (ok_whole result _ _ x.whole) (on_ok result y.whole) x.answers
     (counts_local is_fault _ _ (state_of r.second).faults _ result x.cause y.cause.counted)
 
 pub returns-in-true-false-clause-putting : goal.returns-in-true-false-clause-putting
