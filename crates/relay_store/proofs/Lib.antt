@@ -1,0 +1,9 @@
+mod Finding
+mod Counting
+mod Spaces
+mod Asked
+mod Fitting
+mod Relays
+mod Filled
+mod Putting
+mod Turn

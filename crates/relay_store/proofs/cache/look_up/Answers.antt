@@ -1,0 +1,35 @@
+use Rattle.std.proofs.Common.{◌≡◌, Option, Some, sym, ◌∙◌, ap, subst}
+use Rattle.std.specs.Prelude.{IfSome}
+use Rattle.codes.specs.Views.{found_as}
+use Rattle.cache_api.specs.declared.hit.Hit.{Hit}
+use Rattle.cache_api.specs.Artifacts.{Artifact}
+use Rattle.cache_api.specs.Keys.{text_of}
+use Rattle.cache_api.specs.Reading.{artifact_in}
+use Rattle.relay_store.specs.Parts.{pairs_of, shows}
+use Rattle.relay_store.proofs.Finding.{found_last, found_first, shown_same}
+use Rattle.relay_store.proofs.Relays.{unread}
+use Rattle.relay_store.proofs.cache.look_up.Goals as goal
+
+pub returns-in_err-hit-clause-first_read : goal.returns-in_err-hit-clause-first_read
+returns-in_err-hit-clause-first_read g c = unread g.met.F.StoreDevice.only_now c.args.first.now c.requires.first
+
+pub returns-in-Some-clause-first_read : goal.returns-in-Some-clause-first_read
+returns-in-Some-clause-first_read g c = unread g.met.F.StoreDevice.only_now c.args.first.now c.requires.first
+
+pub returns-in-Some-clause-found : goal.returns-in-Some-clause-found
+returns-in-Some-clause-found g c t u show at_last at_first =
+    let hit = c.in-Some.hit in
+    let last = c.lookup.new.self in
+    let side : hit.side ≡ c.args.last_side =
+    subst (λ (o : Option Hit). IfSome o (λ h. h.side ≡ c.args.last_side)) c.in-Some.is c.in_ok-hit.ensures.side in
+    let is = sym (c.in_ok-hit.ensures.found t) ∙ ap (λ (o : Option Hit). found_as (shows last) o) c.in-Some.is in
+    ap (λ (a : Artifact). Some a) (at_last hit side)
+    ∙ sym (found_last artifact_in (text_of c.args.key) c.args.outs.now (pairs_of c.args.first.now) (pairs_of c.args.last.now) (shows last hit) is)
+
+pub returns-clause-found : goal.returns-clause-found
+returns-clause-found g c t u show at_last at_first =
+    let last = c.lookup.new.self in
+    let none = sym (c.in_ok-hit.ensures.found t) ∙ ap (λ (o : Option Hit). found_as (shows last) o) c.in_default.is in
+    shown_same c.lookup-2.result c.args.first_side (shows c.lookup-2.new.self) show _ _ (c.lookup-2.ensures.found u)
+    (sym (found_first artifact_in (text_of c.args.key) c.args.outs.now (pairs_of c.args.first.now) (pairs_of c.args.last.now) none))
+    c.lookup-2.ensures.side at_first

@@ -1,0 +1,11 @@
+pub mod Access
+pub mod Stores
+pub mod Behind
+pub mod Puts
+pub mod Parts
+pub mod Agree
+pub mod Relays
+pub mod Calls
+pub mod Fronts
+pub mod Rests
+pub mod Laws
