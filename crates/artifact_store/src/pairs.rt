@@ -18,7 +18,8 @@ use store_dev::StoreDevice;
 
 impl<S: StoreDevice> Store<S> {
     ghost use Rattle.artifact_store.specs.Pairs.{told_as};
-    ghost use Rattle.artifact_store.specs.Store.{frames_of, state_of, count_in, moment_of, left_of, cost_of, stands, shows};
+    ghost use Rattle.artifact_store.specs.Store.{frames_of, state_of, count_in, moment_of, left_of};
+    ghost use Rattle.artifact_store.specs.Store.{cost_of, stands, shows, OnlyReadsStore};
 
     /// The pair with that number: its key and its value.
     pub fn pair_at(&mut self, alloc: Global, number: u64) -> Result<(Bytes, Bytes), CacheErr>
@@ -29,6 +30,7 @@ impl<S: StoreDevice> Store<S> {
         ensures reads { CacheReads S.tells state_of cost_of stands shows moment_of left_of told_as
             self.old self.new }
         ensures whole { StaysWhole result (state_of self.old).whole (state_of self.new).whole }
+        ensures store { OnlyReadsStore self.old self.new }
         ensures count { count_in self.new ≡ count_in self.old }
         ensures answers { IfErr result IsFindErr }
         ensures cause { Counts is_fault (state_of self.old).faults
@@ -49,6 +51,7 @@ impl<S: StoreDevice> Store<S> {
         ensures reads { CacheReads S.tells state_of cost_of stands shows moment_of left_of told_as
             self.old self.new }
         ensures whole { StaysWhole result (state_of self.old).whole (state_of self.new).whole }
+        ensures store { OnlyReadsStore self.old self.new }
         ensures answers { IfErr result IsFindErr }
         ensures cause { Counts is_fault (state_of self.old).faults
             (state_of self.new).faults result }

@@ -3,6 +3,13 @@
 //!
 //! A name is the list of its bytes. `specs/` says what a list selects, as a relation (`Selects`) and as a test
 //! (`selects`), and what pairs are chosen by a test of names (`IsChosen`).
+//!
+//! ```text
+//! ["API_*", "!API_TOKEN", "MODE"]      API_URL and MODE, not API_TOKEN, not MODEL
+//! ```
+//!
+//! `*` takes any run of bytes; the order of the texts counts nothing. [`hashed`] chooses the pairs that
+//! count, [`given`] those that are handed on besides. Want of memory is the only error.
 #![tactic(auto)]
 
 mod choose;

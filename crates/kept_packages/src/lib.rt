@@ -3,6 +3,9 @@
 //!
 //! `specs/Kept.antt` says which they are, as the least set of owners that is closed; `specs/Needs.antt` says it by what
 //! one owner needs of another.
+//!
+//! Of `web`, `ui`, `docs` and `lint`, where `web` depends on `ui` and the root on `lint`, those that
+//! `web` needs are `lint`, `ui` and `web`.
 #![tactic(auto)]
 
 mod error;

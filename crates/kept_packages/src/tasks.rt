@@ -6,7 +6,13 @@ ghost use Rattle.workspaces.specs.Space.{owners};
 ghost use Rattle.repository.specs.Reading.{contents_of};
 ghost use Rattle.kept_packages.specs.Kept.{NamesTaskOf};
 ghost use Rattle.kept_packages.specs.Needs.{Gains, Leads};
-ghost use Rattle.kept_packages.specs.Steps.{OnlyMemory, package_of, NamesOwner, TaskNames, AnyTaskNames};
+ghost use Rattle.kept_packages.specs.Steps.{
+  OnlyMemory,
+  package_of,
+  NamesOwner,
+  TaskNames,
+  AnyTaskNames,
+};
 
 use crate::KeptErr;
 use rel_path::Text;

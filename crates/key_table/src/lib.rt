@@ -1,4 +1,7 @@
 //! Small tables of names, each with the kind of its value and its place.
+//!
+//! A table of the rows `cache` (a flag), `outputs` (texts) and so on finds the row of a name, or
+//! `None`. No two rows have one name.
 #![tactic(auto)]
 
 mod row;

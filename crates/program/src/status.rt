@@ -1,7 +1,15 @@
 // What the program does over any devices, and the status that it ends with.
 ghost use Rattle.std.specs.Prelude.{◌≡◌};
 ghost use Rattle.spawn_dev.specs.Spawn.{IsIdle};
-ghost use Rattle.answers.specs.Answers.{exit_status as status_of, IfDone, IfRefused, HasCauseIn, IsNoFault, IsQuiet, counts_at};
+ghost use Rattle.answers.specs.Answers.{
+  exit_status as status_of,
+  IfDone,
+  IfRefused,
+  HasCauseIn,
+  IsNoFault,
+  IsQuiet,
+  counts_at,
+};
 ghost use Rattle.turbo_app.specs.Asking.{IsRefused};
 ghost use Rattle.answers.specs.Moments.{moment_of};
 ghost use Rattle.turbo_app.specs.Outcomes.{Did};

@@ -11,7 +11,7 @@ use Rattle.std.proofs.lemmas.List.{take_more}
 use Rattle.rel_path.specs.Paths.{Path, path_eq, path_cmp, strip, is_among}
 use Rattle.rel_path.specs.Files.{FileMap, over, SameBut}
 use Rattle.rel_path.proofs.PathLaws.{path_same, path_self, path_other, strip_is, strip_append, among_append, path_cmp_total, path_cmp_self}
-use Rattle.prune.proofs.Bools.{or_false, or_true}
+use Rattle.pruned_files.proofs.Bools.{or_false, or_true}
 use Rattle.workspaces.specs.Space.{lies_below}
 use Rattle.collect.specs.Refusals.{is_large}
 use Rattle.pruned_files.specs.Pruned.{lock_path, pruned_at}

@@ -1,4 +1,3 @@
-mod Bools
 mod Targets
 mod Copied
 mod Turns

@@ -10,7 +10,18 @@ ghost use Rattle.tree_dev.specs.Tree.{Keeps, within};
 ghost use Rattle.prune.specs.Cause.{HasCause, counts_of};
 ghost use Rattle.collect.specs.Refusals.{is_large};
 ghost use Rattle.prune.specs.Folders.{is_over};
-ghost use Rattle.prune.specs.Steps.{OnlyMemory, IsOutside, IsOut, SameElsewhere, source, IsTooLarge, Writes, Copies, CopiesAll, tree_error};
+ghost use Rattle.prune.specs.Steps.{
+  OnlyMemory,
+  IsOutside,
+  IsOut,
+  SameElsewhere,
+  source,
+  IsTooLarge,
+  Writes,
+  Copies,
+  CopiesAll,
+  tree_error,
+};
 
 use crate::PruneErr;
 use pruned_files::is_lockfile;

@@ -17,7 +17,8 @@ const ADDED: &str = " - Added ";
 const LINE_FEED: &str = "\n";
 
 fn add_line(text: &mut String, name: &Text) -> Result<(), PruneErr>
-    ensures added { OnOk result (string_bytes text.new ≡ string_bytes text.old ++ named_line name.now) }
+    ensures added { OnOk result
+        (string_bytes text.new ≡ string_bytes text.old ++ named_line name.now) }
     ensures memory { OnlyMemory result }
 {
     text.push_str(ADDED)?;

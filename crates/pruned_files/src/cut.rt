@@ -9,7 +9,14 @@ ghost use Rattle.workspaces.specs.Space.{owners};
 ghost use Rattle.repository.specs.Reading.{contents_of};
 ghost use Rattle.kept_packages.specs.Kept.{kept_places};
 ghost use Rattle.pruned_files.specs.Cut.{Writes};
-ghost use Rattle.pruned_files.specs.Calls.{OnlyMemory, owners_at, CutsOne, Locates, CutsText, CutsLock};
+ghost use Rattle.pruned_files.specs.Calls.{
+  OnlyMemory,
+  owners_at,
+  CutsOne,
+  Locates,
+  CutsText,
+  CutsLock,
+};
 
 use crate::CutErr;
 use crate::by_name::by_name;

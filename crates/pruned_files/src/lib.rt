@@ -2,6 +2,10 @@
 //!
 //! `specs/` says which files stay and what becomes of the lockfile (`Pruned`, `Cut`), what the files that stay say
 //! (`pruned_contents`), which of them an installation needs (`Layers`), and what the calls answer (`Calls`).
+//!
+//! For the packages that stay these are their own files, the root's manifest, `turbo.json`, `.npmrc` and
+//! ignore files, what tasks ask for from anywhere, and the lockfile, cut to what is reached from what
+//! stays. Files that tasks declare as outputs are left out.
 #![tactic(auto)]
 
 mod by_name;

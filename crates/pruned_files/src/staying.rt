@@ -1,5 +1,17 @@
 // The paths of the files that stay.
-ghost use Rattle.std.specs.Prelude.{◌≡◌, ◌++◌, ◌∷◌, [], Bool, List, length, filter, if◌then◌else◌, IfOk, OnOk};
+ghost use Rattle.std.specs.Prelude.{
+  ◌≡◌,
+  ◌++◌,
+  ◌∷◌,
+  [],
+  Bool,
+  List,
+  length,
+  filter,
+  if◌then◌else◌,
+  IfOk,
+  OnOk,
+};
 ghost use Rattle.rel_path.specs.Paths.{Path};
 ghost use Rattle.listing.specs.Memory.{OnlyMemory};
 ghost use Rattle.workspaces.specs.declared.member.Package.{Package};

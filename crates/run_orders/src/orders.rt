@@ -128,7 +128,8 @@ pub fn run_order<W: Spawner, S: StoreDevice, K: Sink>(
     // What was stopped.
     ensures stopped { W.tells → S.tells → K.tells → IfFault result.0
         (StoppedRun (IsRefusedRunOrder order.now env.now
-        (W.state world.old).files (S.content store)) order.now (W.effect (W.runs world.old).book) env.now K.tells
+        (W.state world.old).files (S.content store))
+        order.now (W.effect (W.runs world.old).book) env.now K.tells
         (moment_of (W.state world.old) (W.runs world.old) (S.content store) (K.written out.old))
         (moment_of (W.state world.new) (W.runs world.new) (S.content result.1)
         (K.written out.new))) }

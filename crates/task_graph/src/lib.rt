@@ -1,5 +1,13 @@
 //! The task graph: which tasks a run has, what each depends on, and the order in which they are planned (Turborepo,
 //! "Package and Task Graphs").
+//!
+//! With `"build": {"dependsOn": ["^build"]}`, and `web` depending on `ui`, the graph of `build` has
+//! `ui#build` and `web#build`, the second standing on the first. `^t` stands for the task `t` of the
+//! packages that the owner depends on, `t` for that of the same owner, `x#t` for that of `x`.
+//!
+//! [`expand`] finds the tasks of some names and all that these stand on; [`Graph`] sorts them: of the
+//! tasks whose dependencies are placed the least comes next. `GraphErr` names a word or a text that
+//! stands for no task, and a cycle with its tasks in order.
 #![tactic(auto)]
 
 mod cycle;

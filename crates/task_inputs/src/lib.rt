@@ -6,6 +6,14 @@
 //!
 //! `specs/` says it as tests of a path: whose a file is and who declares it (`Homes`), what an entry matches
 //! (`Entries`), and what a task takes (`is_input` of `Inputs`).
+//!
+//! ```text
+//! "inputs": ["$TURBO_DEFAULT$", "!docs/**", "$TURBO_ROOT$/tsconfig.json"]
+//! ```
+//!
+//! takes the files of the package that no `.gitignore` leaves out, but those below its folder `docs`,
+//! and one of the root. The package's `package.json` and `turbo.json` always count; what a task of the
+//! package declares by `outputs` never does.
 #![tactic(auto)]
 
 mod configured;

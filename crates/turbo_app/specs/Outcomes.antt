@@ -78,15 +78,16 @@ KeepsStore (Err fault) old new = new ≡ old
 
 -- ---- whatever is answered
 
--- what a refusal leaves of the files
-abbrev pub LeavesAsRefused : Result Order WordsErr → FileMap → FileMap → Refusal → Type 0
-LeavesAsRefused (Err fault) old new reason = new ≡ old
-LeavesAsRefused (Ok Help) old new reason = new ≡ old
-LeavesAsRefused (Ok (Prune targets docker)) old new reason =
-    LeavesRefused docker targets old new reason
-LeavesAsRefused (Ok (Sample size)) old new reason = new ≡ old
-LeavesAsRefused (Ok (Compact keep)) old new reason = new ≡ old
-LeavesAsRefused (Ok (Run order)) old new reason = new ≡ old
+-- What a refusal leaves of the files: all of them as they were; and, where the tree tells its files,
+-- an order to prune that is refused for a file that is too large leaves those in front of it.
+abbrev pub LeavesAsRefused : Type 0 → Result Order WordsErr → FileMap → FileMap → Refusal → Type 0
+LeavesAsRefused tells (Err fault) old new reason = new ≡ old
+LeavesAsRefused tells (Ok Help) old new reason = new ≡ old
+LeavesAsRefused tells (Ok (Prune targets docker)) old new reason =
+    tells → LeavesRefused docker targets old new reason
+LeavesAsRefused tells (Ok (Sample size)) old new reason = new ≡ old
+LeavesAsRefused tells (Ok (Compact keep)) old new reason = new ≡ old
+LeavesAsRefused tells (Ok (Run order)) old new reason = new ≡ old
 
 abbrev pub MayChangeBy : Result Order WordsErr → List (List ℕ × List ℕ) → FileMap → FileMap
     → Type 0

@@ -18,7 +18,13 @@ ghost use Rattle.answers.specs.Stops.{IfFault, CutsRefusal};
 ghost use Rattle.turbo_app.specs.Asking.{IsRefused, HasNoOther};
 ghost use Rattle.run_orders.specs.Images.{AddsTo};
 ghost use Rattle.turbo_app.specs.Images.{IsTrustedIn, Lasts, MayBeLeft};
-ghost use Rattle.turbo_app.specs.Outcomes.{AnsweredAlone, Did, KeepsStore, LeavesAsRefused, MayChange};
+ghost use Rattle.turbo_app.specs.Outcomes.{
+  AnsweredAlone,
+  Did,
+  KeepsStore,
+  LeavesAsRefused,
+  MayChange,
+};
 ghost use Rattle.turbo_app.specs.Steps.{IsWordsRefusal};
 ghost use Rattle.turbo_app.specs.Stops.{Stopped};
 
@@ -103,7 +109,7 @@ pub fn turbo<W: Spawner, S: StoreDevice, K: Sink>(
     ensures only { W.tells → S.tells → HasNoOther words.now env.now (W.state world.old).files
         (S.content store) result.0 }
     ensures unstarted { IfRefused result.0 (λ _. W.runs world.new ≡ W.runs world.old) }
-    ensures untouched { W.tells → IfRefused result.0 (LeavesAsRefused (order_of words.now)
+    ensures untouched { IfRefused result.0 (LeavesAsRefused W.tells (order_of words.now)
         (W.state world.old).files (W.state world.new).files) }
     ensures same { S.tells → IfRefused result.0 (λ _. S.content result.1 ≡ S.content store) }
     ensures line { K.tells → IfRefused result.0 (λ reason.

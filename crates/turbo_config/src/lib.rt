@@ -3,6 +3,20 @@
 //!
 //! `specs/` says it in three steps: what the bytes of a file mean (`root_of`, `package_of`), how two entries for one task
 //! are merged (`over`), and which definition a task of a package has (`task_def`).
+//!
+//! ```text
+//! { "globalEnv": ["CI"],
+//!   "tasks": {
+//!     "build": { "dependsOn": ["^build"], "outputs": ["dist/**"] },
+//!     "web#build": { "cache": false },
+//!     "//#lint": {}
+//!   } }
+//! ```
+//!
+//! Here `build` of a package is the first entry, that of `web` the second, which takes its place whole,
+//! and `lint` is a task of the root alone. A package's own file has `"extends": ["//"]`, and each key of
+//! a task there takes the place of the root's; `$TURBO_EXTENDS$` in an array stands for the root's
+//! array. The first fault is answered by `ConfigErr`, with a pointer.
 #![tactic(auto)]
 
 mod config;

@@ -1,12 +1,13 @@
 -- What words ask for, by their order.
 use Rattle.std.proofs.Common.{◌∙◌, ap, sym, subst, Ok}
 use Rattle.spawn_dev.specs.Spawn.{IsIdle}
-use Rattle.cli_words.specs.declared.order.Order.TheVariants.{Run}
+use Rattle.cli_words.specs.declared.order.Order.TheVariants.{Run, Prune}
 use Rattle.turbo_app.specs.Asking.{IsRefusedOrder}
-use Rattle.answers.specs.Answers.{HasCauseIn, counts_of}
+use Rattle.turbo_app.specs.Outcomes.{LeavesAsRefused}
+use Rattle.answers.specs.Answers.{IfRefused, HasCauseIn, counts_of}
 use Rattle.answers.specs.Facts.{no_fault}
 use Rattle.run_orders.specs.Facts.{alone_adds}
-use Rattle.turbo_app.proofs.Alone.{alone_left}
+use Rattle.turbo_app.proofs.Alone.{alone_left, refused_told}
 use Rattle.turbo_app.proofs.top.turbo.Goals as goal
 
 pub run_order-requires-clause-wide : goal.run_order-requires-clause-wide
@@ -90,3 +91,11 @@ returns-in-Err-clause-sound g c store = alone_adds g.S.StoreDevice.moment g.S.St
 
 pub returns-in-Err-clause-left : goal.returns-in-Err-clause-left
 returns-in-Err-clause-left g c told store trusted = alone_left g.S.StoreDevice.moment g.S.StoreDevice.images_since g.S.StoreDevice.images c.args.store (g.met.S.StoreDevice.only_now c.args.store) _ _ _ _ _
+
+pub returns-in-Ok-Prune-clause-untouched : goal.returns-in-Ok-Prune-clause-untouched
+returns-in-Ok-Prune-clause-untouched g c =
+    let old = (g.W.Tree.state c.args.world.now).files in
+    let new = (g.W.Tree.state c.prune_order.new.tree).files in
+    let order = c.in-Ok-Prune.ensures.order ∙ ap (λ o. Ok o) c.in-Ok-Prune.field-0-is in
+    subst (λ o. IfRefused c.prune_order.result (LeavesAsRefused g.W.Tree.tells o old new)) (sym order)
+    (refused_told g.W.Tree.tells c.prune_order.result _ c.prune_order.ensures.untouched)

@@ -37,3 +37,6 @@ pub returns-clause-reads : goal.returns-clause-reads
 returns-clause-reads g c =
     cache_reads c.args.self.now _ c.requires.whole (g.met.S.StoreDevice.only_now (device_of c.args.self.now))
     (record { log = c.pair_at.ensures.log; index = refl; generation = refl })
+
+pub returns-clause-store : goal.returns-clause-store
+returns-clause-store g c = record { log = c.pair_at.ensures.log; index = refl; generation = refl }

@@ -1,0 +1,2 @@
+const log = require('@shop/log')
+log('listening')
