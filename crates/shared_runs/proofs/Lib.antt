@@ -1,1 +1,2 @@
 pub mod MemTurns
+pub mod Appending

@@ -6,6 +6,9 @@ ghost use Rattle.shared_runs.specs.Others.{pairs_of};
 
 use crate::TurnErr;
 use crate::others::{OtherPut, as_new_pairs};
+use artifact_store::{OpenErr, Store};
+use cache_api::{Cache, CacheErr};
+use record_log::Unopened;
 use rel_path::Bytes;
 use std::alloc::{AllocError, Global};
 use store_dev::{MemStore, StoreDevice};
@@ -28,7 +31,20 @@ pub(crate) fn with_pairs<S: StoreDevice + Drop>(
     ensures put { S.tells → IfOk result (HasPairs S.StoreDevice file (pairs_of puts.now)) }
     ensures passed { IfOk result (λ device. S.store_faults device ≡ S.store_faults file) }
 {
-    let _p = as_new_pairs(alloc, puts)?;
-    let _f = file;
-    Err(TurnErr::OutOfMemory)
+    match Store::open(alloc, file) {
+        Ok(store) => {
+            let mut store = store;
+            let pairs = as_new_pairs(alloc, puts)?;
+            match store.put_all(alloc, pairs.as_slice()) {
+                Ok(_puts) => Ok(store.device()),
+                Err(CacheErr::Failed) => Err(TurnErr::Failed),
+                Err(_) => Err(TurnErr::OutOfMemory),
+            }
+        }
+        Err(Unopened { fault, store }) => match fault {
+            OpenErr::NotAStore | OpenErr::Damaged { .. } => Ok(store),
+            OpenErr::Failed => Err(TurnErr::Failed),
+            OpenErr::OutOfMemory => Err(TurnErr::OutOfMemory),
+        },
+    }
 }
