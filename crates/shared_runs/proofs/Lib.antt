@@ -1,2 +1,5 @@
 pub mod MemTurns
 pub mod Appending
+pub mod Turning
+pub mod Fronts
+pub mod Beginning

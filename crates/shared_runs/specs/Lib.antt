@@ -6,3 +6,8 @@ pub mod HistoryLaws
 pub mod Appended
 pub mod MemShared
 pub mod MemLaws
+pub mod Views
+pub mod Marked
+pub mod Passing
+pub mod Errors
+pub mod Shared

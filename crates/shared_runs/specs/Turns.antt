@@ -26,10 +26,11 @@ abbrev pub HeldAfter : {D : Type 0} → Result D TurnErr → Turn → Type 0
 HeldAfter (Ok device) turn = turn.held ≡ true
 HeldAfter (Err e) turn = turn.held ≡ false
 
--- the turn tells how its device was handed out
-pub record IsTurnOf {D : Type 0} (G : Ghosts D) (turn : Turn) (device : D) : Type 0 where
+-- the turn tells how its device was handed out, whose faults so far the file has counted
+pub record IsTurnOf {D : Type 0} (G : Ghosts D) (turn : Turn) (faults : ℕ) (device : D) : Type 0 where
   pub start : turn.start ≡ G.moment device
   pub count : turn.count ≡ G.store_faults device
+  pub counted : turn.count ≤ faults
 
 -- the device holds what the file holds, and a crash leaves no more of it
 pub record HoldsFile {D : Type 0} (G : Ghosts D) (file : List ℕ) (images : List ℕ → Type 0)

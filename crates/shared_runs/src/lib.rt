@@ -4,8 +4,11 @@
 mod appended;
 mod memory;
 mod others;
+mod passing;
+mod store;
 mod turn;
 
 pub use memory::MemShared;
 pub use others::{OtherPut, OtherPuts};
+pub use store::SharedStore;
 pub use turn::{Shared, TurnErr};

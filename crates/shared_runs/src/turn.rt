@@ -72,7 +72,8 @@ pub trait Shared {
     ghost turn: { Self → Turn };
 
     /// The frames of a sound file as the next turn is taken: those that it has, and those that
-    /// others append till then.
+    /// others append till then. Of a told file it is known what others will have appended, so that
+    /// what a call finds behind them can be said before it.
     ghost coming: { Self → List Entry };
 
     /// Waits for the turn, takes it and hands the device out. After an error the turn is not held.
@@ -80,7 +81,8 @@ pub trait Shared {
         requires { (turn self.old).held ≡ false }
         ensures held { HeldAfter result (turn self.new) }
         ensures began { (turn self.new).began ≡ moment self.old }
-        ensures begun { IfOk result (IsTurnOf Self.Device.StoreDevice (turn self.new)) }
+        ensures begun { IfOk result
+            (IsTurnOf Self.Device.StoreDevice (turn self.new) (store_faults self.new)) }
         ensures device { Self.Device.tells → IfOk result
             (HoldsFile Self.Device.StoreDevice (content self.new) (images self.new)) }
         ensures taken { Self.Device.tells → IfOk result (λ _. IsTaken (content self.old)
