@@ -1,13 +1,16 @@
 -- The store with which a turn begins.
-use Rattle.std.proofs.Common.{◌≡◌, ◌⊎◌, inl, inr, ⊎_elim, ℕ, ◌≤◌, List, [], ◌++◌, length, Ok, refl, sym, ◌∙◌, ap, subst, arith}
+use Rattle.std.proofs.Common.{◌≡◌, ◌⊎◌, inl, inr, ⊎_elim, ℕ, ◌≤◌, List, [], ◌++◌, length, take, Result, Ok, refl, sym, ◌∙◌, ap, subst, arith}
 use Rattle.std.proofs.lemmas.List.{append-nil}
 use Rattle.std.specs.Prelude.{true}
 use Rattle.store_dev.specs.Device.{Only, LeavesOnly}
 use Rattle.store_dev.specs.declared.device.StoreDevice.{Ghosts as DeviceGhosts}
 use Rattle.record_log.specs.Kinds.{Entry}
-use Rattle.record_log.specs.Frames.{reading, frames_of, IsSound, ReadsAsOneOf}
+use Rattle.record_log.specs.Frames.{reading, frames_of, IsSound, Fault, ReadsAsOneOf}
 use Rattle.pair_reader.specs.declared.wanted.Lengths.{Lengths}
 use Rattle.artifact_store.specs.declared.store.Store.{Store}
+use Rattle.artifact_store.specs.declared.error.OpenErr.{OpenErr}
+use Rattle.artifact_store.specs.declared.error.OpenErr.TheVariants.{NotAStore, Damaged, Failed, OutOfMemory}
+use Rattle.artifact_store.specs.Answers.{IsFaultOf}
 use Rattle.artifact_store.specs.Opened.{IsOpened}
 use Rattle.artifact_store.specs.Store as store
 use Rattle.shared_runs.specs.declared.turn.Shared.{Ghosts}
@@ -17,6 +20,13 @@ use Rattle.shared_runs.specs.Turns.{IsTurnOf, HoldsFile, IsTaken, GoesOn, LeftIn
 use Rattle.shared_runs.proofs.Fronts.{first_all, first_or_more, starts_few}
 use Rattle.shared_runs.proofs.MemTurns.{frames_is, sound_is}
 use Rattle.shared_runs.proofs.Turning.{goes_more, goes_then}
+
+no_fault : (fault : OpenErr) (read : Result (List Entry) Fault) (es : List Entry) → read ≡ Ok es
+    → IsFaultOf fault read → (other : Result (List Entry) Fault) → IsFaultOf fault other
+no_fault NotAStore read es is not other = absurd cc
+no_fault (Damaged at) read es is not other = absurd cc
+no_fault Failed read es is not other = tt
+no_fault OutOfMemory read es is not other = tt
 
 module _ {H D : Type 0} (G : Ghosts H D) (K : DeviceGhosts D) (old new : H) (device : D)
     (held : (G.turn new).held ≡ true)
@@ -69,6 +79,41 @@ module _ {H D : Type 0} (G : Ghosts H D) (K : DeviceGhosts D) (old new : H) (dev
     durable = λ told sound. (taken told).durable sound;
     left = λ told sound. left_read (store.device_of s) told sound (opened.images told);
   }
+
+  -- ---- a first turn, of a file of which a crash may leave more than it holds
+
+  reads_along : (images : List ℕ → Type 0) (b : List ℕ) (all : List Entry) (c d : List ℕ) → reading c ≡ reading d
+      → HoldsOneOrMore images b all d → HoldsOneOrMore images b all c
+  reads_along images b all c d is (inl (x, now, same)) = inl (x, now, is ∙ same)
+  reads_along images b all c d is (inr (sound, (n, least, le, same))) = inr (sound, (n, least, le, is ∙ same))
+
+  abbrev Before : List ℕ → Type 0
+  Before = HoldsOneOrMore (G.images old) (G.content old) (G.coming old)
+
+  pub first_goes : (end : H) (after : D) → K.tells → GoesOn G.moment G.images_since old new Before
+      → LeavesOnly K.moment K.images_since device after (ReadsAsOneOf (K.images device))
+      → GoesOn G.moment G.images_since new end (LeftInTurn (G.images new) (K.images_since after (G.turn new).start))
+      → ((m n : ℕ) (c : List ℕ) → m ≤ n → n ≤ G.moment end → G.images_since end n c → G.images_since end m c)
+      → ((c : List ℕ) → G.images new c → G.images_since new (G.moment old) c)
+      → GoesOn G.moment G.images_since old end Before
+  first_goes end after told goes images later earlier now =
+      goes_then G.moment G.images_since old new end Before
+      (LeftInTurn (G.images new) (K.images_since after (G.turn new).start)) Before earlier goes later
+      (λ c p. p)
+      (λ c. ⊎_elim (λ was. goes.each c (now c was))
+      (λ left. let (d, here, same) = images.each c (subst (λ (n : ℕ). K.images_since after n c) begun.start left) in
+      reads_along (G.images old) (G.content old) (G.coming old) c d same
+      (goes.each d (now d ((holds told).fewer d here)))))
+
+  -- the file is no store where its device is none
+  pub first_fault : (fault : OpenErr) → K.tells → IsFaultOf fault (reading (K.content device))
+      → IsFaultOf fault (reading (G.content old))
+  first_fault fault told is = ⊎_elim
+      (λ (d, was, same). subst (λ r. IsFaultOf fault r)
+      (ap reading (holds told).same ∙ same ∙ ap reading was) is)
+      (λ (sound, (n, least, le, same)). no_fault fault (reading (K.content device)) (take n (G.coming old))
+      (ap reading (holds told).same ∙ same) is (reading (G.content old)))
+      (file told)
 
   -- ---- a turn whose device was not opened, and that was given back
 

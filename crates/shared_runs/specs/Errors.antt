@@ -11,6 +11,10 @@ abbrev pub of_turn : TurnErr → CacheErr
 of_turn Failed = cache.Failed
 of_turn OutOfMemory = cache.OutOfMemory
 
+abbrev pub to_open : TurnErr → OpenErr
+to_open Failed = store.Failed
+to_open OutOfMemory = store.OutOfMemory
+
 -- a file that is no store is a fault
 abbrev pub of_opening : OpenErr → CacheErr
 of_opening store.OutOfMemory = cache.OutOfMemory

@@ -10,4 +10,5 @@ pub mod Views
 pub mod Marked
 pub mod Passing
 pub mod Errors
+pub mod First
 pub mod Shared

@@ -2,6 +2,7 @@
 #![tactic(auto)]
 
 mod appended;
+mod first;
 mod memory;
 mod others;
 mod passing;

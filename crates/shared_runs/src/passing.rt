@@ -3,6 +3,7 @@ ghost use Rattle.std.specs.Prelude.{◌≡◌, ◌≤◌, ◌+◌, ◌-◌, ◌^
 ghost use Rattle.rel_path.specs.Causes.{Counts, Rose};
 ghost use Rattle.cache_api.specs.Cache.{IsFindErr, is_fault as is_cache_fault};
 ghost use Rattle.artifact_store.specs.Marks.{IsMarkOf, foreseen};
+ghost use Rattle.artifact_store.specs.Store.{device_of, lengths_of};
 ghost use Rattle.shared_runs.specs.Errors.{of_turn, of_opening, is_damage};
 ghost use Rattle.store_dev.specs.Device.{Only, Within};
 ghost use Rattle.record_log.specs.Frames.{IsSound, ends, frames_of};
@@ -111,4 +112,32 @@ pub(crate) fn begin<H: Shared>(
             }
         }
     }
+}
+
+/// Ends the turn of a store, and tells what is known of its frames.
+pub(crate) fn close<H: Shared>(
+    shared: &mut H,
+    store: Store<H::Device>,
+) -> Result<StoreMark, TurnErr>
+    requires { IsInTurn H.Shared H.Device.StoreDevice shared.old (device_of store) }
+    ensures held { (H.turn shared.new).held ≡ false }
+    ensures began { (H.turn shared.new).began ≡ (H.turn shared.old).began }
+    ensures file { H.Device.tells → H.content shared.new ≡ H.Device.content (device_of store) }
+    ensures mark { H.Device.tells
+        → IfOk result (λ mark. IsMarkOf mark (frames_of (H.content shared.new))) }
+    ensures foresees { IfOk result (λ mark. foreseen mark ≡ lengths_of store) }
+    ensures durable { H.Device.tells
+        → OnOk result (Only (H.content shared.new) (H.images shared.new)) }
+    ensures time { H.Device.tells → GoesOn H.moment H.images_since shared.old shared.new
+        (LeftInTurn (H.images shared.old)
+        (H.Device.images_since (device_of store) (H.turn shared.old).start)) }
+    ensures grows { ends (H.coming shared.old) ≤ ends (H.coming shared.new) }
+    ensures only { IfErr result (λ e. e ≡ TurnErr.Failed) }
+    ensures cause { Counts is_fault (H.store_faults shared.old
+        + (H.Device.store_faults (device_of store) - (H.turn shared.old).count))
+        (H.store_faults shared.new) result }
+{
+    let (mark, device) = store.rest();
+    end_turn(shared, device)?;
+    Ok(mark)
 }
