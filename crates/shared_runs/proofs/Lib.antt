@@ -3,3 +3,4 @@ pub mod Appending
 pub mod Turning
 pub mod Fronts
 pub mod Beginning
+pub mod Starting

@@ -3,18 +3,21 @@ use Rattle.std.specs.Prelude.{◌≡◌, ℕ, List, length, Ok}
 use Rattle.store_dev.specs.Device.{Only}
 use Rattle.record_log.specs.Kinds.{Entry}
 use Rattle.record_log.specs.Frames.{reading, frames_of, IsSound}
-use Rattle.pair_frames.specs.Pairs.{pairs_in}
+use Rattle.artifact_store.specs.declared.mark.StoreMark.{StoreMark}
 use Rattle.artifact_store.specs.Marks.{IsMarkOf}
 use Rattle.artifact_store.specs.Pairs.{free_in}
-use Rattle.shared_runs.specs.declared.first.FirstTurn.{FirstTurn}
+use Rattle.shared_runs.specs.Views.{pairs_at}
 
--- The file was a store and has the frames that were to come, a crash leaves what it holds, and the turn
--- tells its frames, how many pairs they hold, and the room behind them.
-pub record IsFirstTurn (old : List ℕ) (coming : List Entry) (new : List ℕ) (images : List ℕ → Type 0)
-    (turn : FirstTurn) : Type 0 where
+-- the file was a store, and it is one of the frames that were to come
+pub record IsFirstTurn (old : List ℕ) (coming : List Entry) (new : List ℕ) : Type 0 where
   pub sound : IsSound old
   pub read : reading new ≡ Ok coming
-  pub durable : Only new images
-  pub mark_is : IsMarkOf turn.mark (frames_of new)
-  pub pairs : turn.pairs ≡ length (pairs_in coming)
-  pub room : turn.room ≡ free_in new
+
+-- The mark is that of the file's frames, which hold so many pairs and leave so much room, and a crash
+-- leaves what the file holds.
+pub record TellsFile (mark : StoreMark) (pairs room : ℕ) (file : List ℕ) (images : List ℕ → Type 0) : Type 0 where
+  pub sound : IsSound file
+  pub durable : Only file images
+  pub mark_is : IsMarkOf mark (frames_of file)
+  pub count : pairs ≡ length (pairs_at file)
+  pub free : room ≡ free_in file

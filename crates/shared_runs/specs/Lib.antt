@@ -12,3 +12,4 @@ pub mod Passing
 pub mod Errors
 pub mod First
 pub mod Shared
+pub mod Opened

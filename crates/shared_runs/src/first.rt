@@ -6,7 +6,7 @@ ghost use Rattle.pair_reader.specs.declared.wanted.Lengths.TheVariants as Length
 ghost use Rattle.artifact_store.specs.Answers.{IsFaultOf, is_fault};
 ghost use Rattle.artifact_store.specs.Marks.{foreseen};
 ghost use Rattle.shared_runs.specs.Errors.{to_open};
-ghost use Rattle.shared_runs.specs.First.{IsFirstTurn};
+ghost use Rattle.shared_runs.specs.First.{IsFirstTurn, TellsFile};
 ghost use Rattle.shared_runs.specs.Frames.{HoldsOneOrMore};
 ghost use Rattle.shared_runs.specs.Turns.{GoesOn};
 
@@ -29,8 +29,9 @@ pub(crate) struct FirstTurn {
 pub(crate) fn first_turn<H: Shared>(alloc: Global, shared: &mut H) -> Result<FirstTurn, OpenErr>
     requires { (H.turn shared.old).held ≡ false }
     ensures held { (H.turn shared.new).held ≡ false }
-    ensures turn { H.Device.tells → IfOk result (IsFirstTurn (H.content shared.old)
-        (H.coming shared.old) (H.content shared.new) (H.images shared.new)) }
+    ensures turn { H.Device.tells → IfOk result (λ turn. IsFirstTurn (H.content shared.old)
+        (H.coming shared.old) (H.content shared.new)
+        × TellsFile turn.mark turn.pairs turn.room (H.content shared.new) (H.images shared.new)) }
     ensures foresees { IfOk result (λ turn. foreseen turn.mark ≡ Lengths.All) }
     ensures fault { H.Device.tells
         → IfErr result (λ e. IsFaultOf e (reading (H.content shared.old))) }

@@ -1,13 +1,14 @@
 // One run's cache in a file that several runs use.
-ghost use Rattle.std.specs.Prelude.{◌≡◌, ◌<◌, ◌≤◌, Some, true, false, IfOk, IfErr};
+ghost use Rattle.std.specs.Prelude.{◌≡◌, ◌<◌, [], Some, true, false, is_some, IfOk, IfErr};
 ghost use Rattle.std.specs.List.{All};
 ghost use Rattle.artifact_store.specs.declared.mark.StoreMark.{StoreMark};
 ghost use Rattle.shared_runs.specs.Views.{Sees};
 ghost use Rattle.shared_runs.specs.Marked.{IsKept};
 
 use crate::Shared;
+use crate::first::{FirstTurn, first_turn};
 use artifact_store::{OpenErr, StoreMark};
-use pair_index::SeenPairs;
+use pair_index::{Numbers, SeenPairs};
 use record_log::Unopened;
 use std::alloc::Global;
 
@@ -34,6 +35,62 @@ pub struct SharedStore<H: Shared> {
 }
 
 impl<H: Shared> SharedStore<H> {
+    ghost use Rattle.pair_reader.specs.declared.wanted.Lengths.TheVariants as Lengths;
+    ghost use Rattle.artifact_store.specs.Marks.{foreseen};
+    ghost use Rattle.shared_runs.specs.First.{TellsFile};
+    ghost use Rattle.shared_runs.specs.Opened.{IsOpened, IsUnopened};
+
+    /// Takes the first turn, and opens the file as a store, which is then written where at most nine bytes stand in it.
+    /// The pairs are those that it finds. What is no store is handed back, and its turn is not held.
+    pub fn open(alloc: Global, shared: H) -> Result<SharedStore<H>, Unopened<H, OpenErr>>
+        requires { (H.turn shared).held ≡ false }
+        ensures opened { IfOk result (IsOpened H.Shared H.Device.StoreDevice shared) }
+        ensures unopened { IfErr result (IsUnopened H.Shared H.Device.StoreDevice shared) }
+    {
+        let mut shared = shared;
+        match first_turn(alloc, &mut shared) {
+            Ok(turn) => {
+                let FirstTurn { mark, pairs, room } = turn;
+                Ok(SharedStore::begun(alloc, shared, mark, pairs, room))
+            }
+            Err(fault) => Err(Unopened {
+                fault,
+                store: shared,
+            }),
+        }
+    }
+
+    /// The cache of a run whose first turn ended, with what it told of the file.
+    fn begun(
+        alloc: Global,
+        shared: H,
+        mark: StoreMark,
+        first: u64,
+        room: u64,
+    ) -> SharedStore<H>
+        requires turn { (H.turn shared).held ≡ false }
+        requires foresees { foreseen mark ≡ Lengths.All }
+        requires file { H.Device.tells
+            → TellsFile mark first room (H.content shared) (H.images shared) }
+        ensures shared { result.shared ≡ shared }
+        ensures first { result.seen.first ≡ first }
+        ensures own { result.seen.own ≡ [] }
+        ensures whole { is_some result.mark ≡ true }
+        ensures damaged { result.damaged ≡ 0 }
+    {
+        SharedStore {
+            shared,
+            mark: Some(mark),
+            seen: SeenPairs {
+                first,
+                own: Numbers::new(alloc),
+            },
+            next: 0,
+            room,
+            damaged: 0,
+        }
+    }
+
     /// The file, whose turn is not held.
     pub fn shared(self) -> H
         ensures turn { (H.turn result).held ≡ false }

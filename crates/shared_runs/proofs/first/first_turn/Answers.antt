@@ -1,8 +1,8 @@
-use Rattle.std.proofs.Common.{◌≡◌, List, Ok, sym, ◌∙◌, ap, subst, length}
+use Rattle.std.proofs.Common.{◌≡◌, ℕ, List, Ok, sym, ◌∙◌, ap, subst, length}
 use Rattle.std.specs.Prelude.{◌-◌}
 use Rattle.record_log.specs.Kinds.{Entry}
 use Rattle.record_log.specs.Frames.{reading, frames_of}
-use Rattle.pair_frames.specs.Pairs.{pairs_in}
+use Rattle.shared_runs.specs.Views.{pairs_at}
 use Rattle.pair_reader.specs.declared.wanted.Lengths.TheVariants as lengths
 use Rattle.artifact_store.specs.Pairs.{free_in}
 use Rattle.artifact_store.specs.Store as store
@@ -41,14 +41,15 @@ returns-in-Ok-close-clause-turn g c told =
     c.in-Ok.ensures.held c.in-Ok.ensures.begun c.in-Ok.ensures.device c.in-Ok.ensures.taken c.take.ensures.file told new_sound in
     let frames : store.frames_of s ≡ h.coming old = begins.frames told sound in
     let same = c.close.ensures.file told in
-    record {
-      sound = sound;
-      read = ap reading same ∙ (s.log.kept opened.whole told).read ∙ ap (λ (l : List Entry). Ok l) frames;
+    let read : reading (h.content end) ≡ Ok (h.coming old) =
+    ap reading same ∙ (s.log.kept opened.whole told).read ∙ ap (λ (l : List Entry). Ok l) frames in
+    (record { sound = sound; read = read }, record {
+      sound = sound_is (h.content end) (h.coming old) read;
       durable = c.in-Ok-close.ensures.durable told;
       mark_is = c.in-Ok-close.ensures.mark told;
-      pairs = c.count-pairs.ensures.pairs told opened.whole ∙ ap (λ (l : List Entry). length (pairs_in l)) frames;
-      room = c.free-room.ensures ∙ room_is s opened.whole told ∙ ap free_in (sym same);
-    }
+      count = c.count-pairs.ensures.pairs told opened.whole ∙ ap (λ (b : List ℕ). length (pairs_at b)) (sym same);
+      free = c.free-room.ensures ∙ room_is s opened.whole told ∙ ap free_in (sym same);
+    })
 
 pub returns-in-Ok-close-clause-time : goal.returns-in-Ok-close-clause-time
 returns-in-Ok-close-clause-time g c told =
