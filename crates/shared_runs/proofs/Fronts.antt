@@ -1,6 +1,7 @@
 -- Frames at the front of others.
-use Rattle.std.proofs.Common.{◌≡◌, ◌⊎◌, inl, inr, ⊎_elim, ℕ, ◌≤◌, List, [], ◌++◌, length, take, Ok, refl, sym, ◌∙◌, ap, subst, arith, length-append}
+use Rattle.std.proofs.Common.{◌≡◌, ◌⊎◌, inl, inr, ⊎_elim, ℕ, ◌+◌, ◌-◌, ◌≤◌, List, [], ◌++◌, length, take, Ok, refl, sym, ◌∙◌, ap, subst, arith, length-append, append_assoc}
 use Rattle.std.proofs.lemmas.List.{append-nil, take_at, take_all, take-append-le}
+use Rattle.std.proofs.Math.Seq.{take-append-add}
 use Rattle.store_dev.specs.Device.{Only}
 use Rattle.record_log.specs.Kinds.{Entry}
 use Rattle.record_log.specs.Frames.{reading, frames_of, IsSound, ReadsAsOneOf}
@@ -57,3 +58,31 @@ module _ (file : List ℕ) (all : List Entry) (sound : IsSound file) (starts : S
   first_or_more images only c (inl (d, now, same)) =
       first_none c (same ∙ ap reading (only d now) ∙ sound)
   first_or_more images only c (inr more) = more.1
+
+-- ---- fronts of frames that others begin with
+
+pub front_same : (fs all : List Entry) → StartWith fs all → (n : ℕ) → n ≤ length fs → take n all ≡ take n fs
+front_same fs all (more, is) n le = ap (take n) is ∙ take-append-le n fs more le
+
+-- what is longer begins with them
+pub front_long : (fs all : List Entry) → StartWith fs all → (n : ℕ) → length fs ≤ n → StartWith fs (take n all)
+front_long fs all (more, is) n le =
+    let at : n ≡ length fs + (n - length fs) = omega (arith, le) in
+    (take (n - length fs) more,
+    ap (take n) is ∙ ap (λ (k : ℕ). take k (fs ++ more)) at ∙ take-append-add fs more (n - length fs))
+
+pub holds_first : (fs all : List Entry) → StartWith fs all → (c : List ℕ) → HoldsFirst (length fs) all c → HoldsOn fs c
+holds_first fs all starts c (n, least, le, is) =
+    let (more, same) = front_long fs all starts n least in
+    (more, is ∙ ap (λ (l : List Entry). Ok l) same)
+
+pub starts_then : (a b d : List Entry) → StartWith a b → StartWith b d → StartWith a d
+starts_then a b d (x, is) (y, are) =
+    (x ++ y, are ∙ ap (λ (l : List Entry). l ++ y) is ∙ append_assoc a x y)
+
+pub holds_then : (a b : List Entry) → StartWith a b → (c : List ℕ) → HoldsOn b c → HoldsOn a c
+holds_then a b (x, is) c (y, read) =
+    (x ++ y, read ∙ ap (λ (l : List Entry). Ok l) (ap (λ (l : List Entry). l ++ y) is ∙ append_assoc a x y))
+
+pub holds_starts : (fs : List Entry) (c : List ℕ) → HoldsOn fs c → StartWith fs (frames_of c)
+holds_starts fs c (more, is) = (more, frames_is c (fs ++ more) is)
