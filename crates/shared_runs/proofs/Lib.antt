@@ -4,6 +4,7 @@ pub mod Turning
 pub mod Fronts
 pub mod Beginning
 pub mod Starting
+pub mod Ending
 pub mod Formed
 pub mod Seeing
 pub mod Leaving

@@ -71,7 +71,7 @@ hits_start old new starts = record {
 -- ---- what a run keeps
 
 module _ {H D : Type 0} {G : Ghosts H D} {K : DeviceGhosts D} (old new : SharedStore H D G K) where
-  pub sees_below : (mark : StoreMark) → old.mark ≡ Some mark → K.tells
+  pub sees_below : (mark : StoreMark) → old.turns.mark ≡ Some mark → K.tells
       → SeesBelow old.seen (length (pairs_at (file_of old)))
   sees_below mark is told = record {
     first = (old.sees told).first;
@@ -80,7 +80,7 @@ module _ {H D : Type 0} {G : Ghosts H D} {K : DeviceGhosts D} (old new : SharedS
   }
 
   pub keeps_start : new.seen.first ≡ old.seen.first → (K.tells → StartWith (frames_in old) (frames_in new))
-      → new.room ≤ old.room → ends (coming_in old) ≤ ends (coming_in new) → Keeps (state_of old) (state_of new)
+      → new.turns.room ≤ old.turns.room → ends (coming_in old) ≤ ends (coming_in new) → Keeps (state_of old) (state_of new)
   keeps_start first starts room grows = record {
     base = λ i told. base_same told i;
     room = omega (arith, room, grows);
@@ -93,11 +93,11 @@ module _ {H D : Type 0} {G : Ghosts H D} {K : DeviceGhosts D} (old new : SharedS
           ap (λ (n : ℕ). take n (pairs_at (file_of new))) first ∙ ap (take old.seen.first) pairs
           ∙ take-append-le old.seen.first (pairs_at (file_of old)) more (old.sees told).first
 
-  module _ (mark : StoreMark) (was : old.mark ≡ Some mark) (seen : new.seen ≡ old.seen)
-      (began : (G.turn new.shared).began ≡ G.moment old.shared)
-      (first : K.tells → LeavesFirst G old.shared new.shared)
-      (room : new.room ≤ old.room) (grows : ends (coming_in old) ≤ ends (coming_in new))
-      (ended : (is_some new.mark ≡ false) ⊎ (K.tells → reading (file_of new) ≡ Ok (coming_in old)))
+  module _ (mark : StoreMark) (was : old.turns.mark ≡ Some mark) (seen : new.seen ≡ old.seen)
+      (began : (G.turn new.turns.shared).began ≡ G.moment old.turns.shared)
+      (first : K.tells → LeavesFirst G old.turns.shared new.turns.shared)
+      (room : new.turns.room ≤ old.turns.room) (grows : ends (coming_in old) ≤ ends (coming_in new))
+      (ended : (is_some new.turns.mark ≡ false) ⊎ (K.tells → reading (file_of new) ≡ Ok (coming_in old)))
       (stays : K.tells → StartWith (frames_in old) (coming_in old)) where
     pub starts : K.tells → StartWith (frames_in old) (frames_in new)
     starts told = holds_starts (frames_in old) (file_of new)
@@ -109,8 +109,8 @@ module _ {H D : Type 0} {G : Ghosts H D} {K : DeviceGhosts D} (old new : SharedS
         ∙ view_same old.seen (frames_in old) (frames_of c) c (sees_below mark was told)
         (holds_starts (frames_in old) c on) refl (file_of old) refl
 
-    left_in_turn : K.tells → (c : List ℕ) → G.images_since new.shared (G.moment old.shared) c
-        → IsLeft (is_some new.mark) (G.images_since new.shared (G.turn new.shared).began) (file_of new) c
+    left_in_turn : K.tells → (c : List ℕ) → G.images_since new.turns.shared (G.moment old.turns.shared) c
+        → IsLeft (is_some new.turns.mark) (G.images_since new.turns.shared (G.turn new.turns.shared).began) (file_of new) c
     left_in_turn told c left =
         let (n, least, le, is) = (first told).goes.each c left in
         let (k, few, lt, read) = (first told).file in
@@ -125,7 +125,7 @@ module _ {H D : Type 0} {G : Ghosts H D} {K : DeviceGhosts D} (old new : SharedS
                     let (x, same) = front_long (take k (coming_in old)) (coming_in old)
                     (drop k (coming_in old), sym (take-append-drop k (coming_in old))) n
                     (omega (arith, more, length-take k (coming_in old))) in
-                    inr (not_whole, (subst (λ (t : ℕ). G.images_since new.shared t c) (sym began) left,
+                    inr (not_whole, (subst (λ (t : ℕ). G.images_since new.turns.shared t c) (sym began) left,
                     (x, is ∙ ap (λ (l : List Entry). Ok l) (same ∙ ap (λ (l : List Entry). l ++ x) (sym now)))))
                 | inr short ↦ inl (n, omega arith,
                     omega (arith, short, lt, ap length now, length-take k (coming_in old)),

@@ -36,33 +36,33 @@ pub view_first : (seen : SeenPairs) (file : List ℕ) → seen.first ≡ length 
 view_first seen file is = seen_all seen (pairs_at file) (omega (arith, is))
 
 module _ {H D : Type 0} (G : Ghosts H D) (K : DeviceGhosts D) (old new : H) (turn : FirstTurn)
-    (s : SharedStore H D G K) (shared : s.shared ≡ new) (first : s.seen.first ≡ turn.pairs)
-    (whole : is_some s.mark ≡ true) (damaged : s.damaged ≡ 0)
+    (s : SharedStore H D G K) (shared : s.turns.shared ≡ new) (first : s.seen.first ≡ turn.pairs)
+    (whole : is_some s.turns.mark ≡ true) (damaged : s.turns.damaged ≡ 0)
     (told_first : K.tells → IsFirstTurn (G.content old) (G.coming old) (G.content new)
     × TellsFile turn.mark turn.pairs turn.room (G.content new) (G.images new))
     (goes : K.tells → GoesOn G.moment G.images_since old new
     (HoldsOneOrMore (G.images old) (G.content old) (G.coming old)))
     (cause : G.store_faults new ≡ G.store_faults old) where
-  file_is : G.content s.shared ≡ G.content new
+  file_is : G.content s.turns.shared ≡ G.content new
   file_is = ap G.content shared
 
-  frames_are : K.tells → frames_of (G.content s.shared) ≡ G.coming old
+  frames_are : K.tells → frames_of (G.content s.turns.shared) ≡ G.coming old
   frames_are told =
       ap frames_of file_is ∙ frames_is (G.content new) (G.coming old) (told_first told).0.read
 
-  first_is : K.tells → s.seen.first ≡ length (pairs_at (G.content s.shared))
+  first_is : K.tells → s.seen.first ≡ length (pairs_at (G.content s.turns.shared))
   first_is told = first ∙ (told_first told).1.count ∙ ap (λ (b : List ℕ). length (pairs_at b)) (sym file_is)
 
   pub is_opened : IsOpened G K old s
   is_opened = record {
     sound = λ told. (told_first told).0.sound;
     frames = frames_are;
-    pairs = λ told. view_first s.seen (G.content s.shared) (first_is told) ∙ ap pairs_in (frames_are told);
-    base = λ told. take_all s.seen.first (pairs_at (G.content s.shared)) (omega (arith, first_is told))
+    pairs = λ told. view_first s.seen (G.content s.turns.shared) (first_is told) ∙ ap pairs_in (frames_are told);
+    base = λ told. take_all s.seen.first (pairs_at (G.content s.turns.shared)) (omega (arith, first_is told))
         ∙ ap pairs_in (frames_are told);
     whole = whole;
     cause = omega (arith, damaged, cause, ap G.store_faults shared);
-    images = λ told. leaves_images G old s.shared
+    images = λ told. leaves_images G old s.turns.shared
         (subst (λ x. GoesOn G.moment G.images_since old x
         (HoldsOneOrMore (G.images old) (G.content old) (G.coming old))) (sym shared) (goes told));
   }

@@ -1,5 +1,5 @@
 -- Errors of a turn and of an opening as a cache says them.
-use Rattle.std.specs.Prelude.{Bool, true, false}
+use Rattle.std.specs.Prelude.{◌≡◌, ◌⊎◌, Bool, true, false, Result, Ok, Err}
 use Rattle.cache_api.specs.declared.error.CacheErr.{CacheErr}
 use Rattle.cache_api.specs.declared.error.CacheErr.TheVariants as cache
 use Rattle.artifact_store.specs.declared.error.OpenErr.{OpenErr}
@@ -25,3 +25,12 @@ abbrev pub is_damage : OpenErr → Bool
 is_damage store.NotAStore = true
 is_damage (store.Damaged at) = true
 is_damage _ = false
+
+-- a call failed
+abbrev pub failed : {T : Type 0} → Result T CacheErr → Bool
+failed (Err cache.Failed) = true
+failed _ = false
+
+-- what was answered is answered, or the turn was not ended well
+abbrev pub OrFailed : {T : Type 0} → Result T CacheErr → Result T CacheErr → Type 0
+OrFailed answer result = (result ≡ answer) ⊎ (result ≡ Err cache.Failed)

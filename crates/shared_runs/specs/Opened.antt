@@ -30,7 +30,7 @@ pub record IsOpened {H D : Type 0} (G : Ghosts H D) (K : DeviceGhosts D) (file :
   pub base : (told : K.tells) → (state_of s).base told ≡ pairs_in (G.coming file)
   pub whole : IsTrue (state_of s).whole
   pub cause : (state_of s).faults ≡ G.store_faults file
-  pub images : K.tells → LeavesImages G file s.shared
+  pub images : K.tells → LeavesImages G file s.turns.shared
 
 -- the file that was not opened, and why
 pub record IsUnopened {H D : Type 0} (G : Ghosts H D) (K : DeviceGhosts D) (file : H)

@@ -23,7 +23,7 @@ use Rattle.shared_runs.specs.Views.{pairs_at, view_of, Says}
 module _ {H D : Type 0} {G : Ghosts H D} {K : DeviceGhosts D} where
   -- the bytes of the file
   abbrev pub file_of : SharedStore H D G K → List ℕ
-  file_of s = G.content s.shared
+  file_of s = G.content s.turns.shared
 
   -- those of its frames that count
   abbrev pub frames_in : SharedStore H D G K → List Entry
@@ -31,27 +31,27 @@ module _ {H D : Type 0} {G : Ghosts H D} {K : DeviceGhosts D} where
 
   -- and those that stand in it as the next turn is taken
   abbrev pub coming_in : SharedStore H D G K → List Entry
-  coming_in s = G.coming s.shared
+  coming_in s = G.coming s.turns.shared
 
   -- The pairs are those that the run sees; it may be used while what is known of the frames is kept; the room is that
   -- of its last turn, or what the frames to come leave of it; and what it keeps as it is are the pairs of its first turn.
   abbrev pub state_of : SharedStore H D G K → CacheState (K.tells → List Pair)
   state_of s = record {
     pairs = view_of s.seen (file_of s);
-    whole = is_some s.mark;
-    room = min s.room (store_limit - ends (coming_in s));
-    faults = G.store_faults s.shared + s.damaged;
+    whole = is_some s.turns.mark;
+    room = min s.turns.room (store_limit - ends (coming_in s));
+    faults = G.store_faults s.turns.shared + s.turns.damaged;
     probes = 0;
     base = λ told. take s.seen.first (pairs_at (file_of s));
   }
 
   abbrev pub moment_of : SharedStore H D G K → Moment
-  moment_of s = record { first = G.moment s.shared; second = 0 }
+  moment_of s = record { first = G.moment s.turns.shared; second = 0 }
 
   -- what a crash since a moment may have left says
   abbrev pub left_of : SharedStore H D G K → Moment → Option (List Pair) → Type 0
-  left_of s m left = (image : List ℕ) × (G.images_since s.shared m.first image
-      × Says (is_some s.mark) (G.images_since s.shared (G.turn s.shared).began) s.seen (file_of s) image left)
+  left_of s m left = (image : List ℕ) × (G.images_since s.turns.shared m.first image
+      × Says (is_some s.turns.mark) (G.images_since s.turns.shared (G.turn s.turns.shared).began) s.seen (file_of s) image left)
 
   -- ---- hits
 

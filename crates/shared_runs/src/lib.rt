@@ -8,6 +8,7 @@ mod others;
 mod passing;
 mod store;
 mod turn;
+mod turns;
 
 pub use memory::MemShared;
 pub use others::{OtherPut, OtherPuts};

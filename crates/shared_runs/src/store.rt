@@ -7,6 +7,7 @@ ghost use Rattle.shared_runs.specs.Marked.{IsKept};
 
 use crate::Shared;
 use crate::first::{FirstTurn, first_turn};
+use crate::turns::Turns;
 use artifact_store::{OpenErr, StoreMark};
 use pair_index::{Numbers, SeenPairs};
 use record_log::Unopened;
@@ -18,20 +19,15 @@ use std::alloc::Global;
 /// answers. After a call that answered `Failed` no further turn is taken.
 #[derive(Drop)]
 pub struct SharedStore<H: Shared> {
-    pub(crate) shared: H,
-    // Of the frames as the last turn ended. None is kept where a call of the turn failed.
-    pub(crate) mark: Option<StoreMark>,
+    pub(crate) turns: Turns<H>,
     pub(crate) seen: SeenPairs,
     // The numbers of the own pairs are below this one.
     pub(crate) next: u64,
-    pub(crate) room: u64,
-    // How many turns found a file that is no store.
-    pub(crate) damaged: u64,
-    pub ghost idle: { (H.turn shared).held ≡ false },
+    pub ghost idle: { (H.turn turns.shared).held ≡ false },
     pub ghost below: { All (λ n. n < next) seen.own },
-    pub ghost sees: { H.Device.tells → Sees seen room (H.content shared) },
-    pub ghost kept: { (m : StoreMark) → mark ≡ Some m → H.Device.tells
-        → IsKept m next (H.content shared) (H.images shared) },
+    pub ghost sees: { H.Device.tells → Sees seen turns.room (H.content turns.shared) },
+    pub ghost kept: { (m : StoreMark) → turns.mark ≡ Some m → H.Device.tells
+        → IsKept m next (H.content turns.shared) (H.images turns.shared) },
 }
 
 impl<H: Shared> SharedStore<H> {
@@ -72,30 +68,32 @@ impl<H: Shared> SharedStore<H> {
         requires foresees { foreseen mark ≡ Lengths.All }
         requires file { H.Device.tells
             → TellsFile mark first room (H.content shared) (H.images shared) }
-        ensures shared { result.shared ≡ shared }
+        ensures shared { result.turns.shared ≡ shared }
         ensures first { result.seen.first ≡ first }
         ensures own { result.seen.own ≡ [] }
-        ensures whole { is_some result.mark ≡ true }
-        ensures damaged { result.damaged ≡ 0 }
+        ensures whole { is_some result.turns.mark ≡ true }
+        ensures damaged { result.turns.damaged ≡ 0 }
     {
         SharedStore {
-            shared,
-            mark: Some(mark),
+            turns: Turns {
+                shared,
+                mark: Some(mark),
+                room,
+                damaged: 0,
+            },
             seen: SeenPairs {
                 first,
                 own: Numbers::new(alloc),
             },
             next: 0,
-            room,
-            damaged: 0,
         }
     }
 
     /// The file, whose turn is not held.
     pub fn shared(self) -> H
         ensures turn { (H.turn result).held ≡ false }
-        ensures file { result ≡ self.shared }
+        ensures file { result ≡ self.turns.shared }
     {
-        self.shared
+        self.turns.shared
     }
 }

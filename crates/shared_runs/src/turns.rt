@@ -1,0 +1,111 @@
+// The turns of a run, one after another.
+ghost use Rattle.std.specs.Prelude.{◌≡◌, ◌≤◌, ◌+◌, Some, None, true, false, is_some, min, IsTrue, IfOk, IfErr, OnErr};
+ghost use Rattle.rel_path.specs.Causes.{Counts};
+ghost use Rattle.record_log.specs.Frames.{ends};
+ghost use Rattle.cache_api.specs.Cache.{IsFindErr, StaysWhole, is_fault};
+ghost use Rattle.artifact_store.specs.declared.mark.StoreMark.{StoreMark};
+ghost use Rattle.pair_reader.specs.declared.wanted.Lengths.TheVariants as Lengths;
+ghost use Rattle.artifact_store.specs.Marks.{foreseen};
+ghost use Rattle.artifact_store.specs.Store.{device_of, lengths_of, state_of};
+ghost use Rattle.shared_runs.specs.Errors.{OrFailed, failed};
+ghost use Rattle.shared_runs.specs.Marked.{IsMarked};
+ghost use Rattle.shared_runs.specs.Passing.{IsInTurn, BeginsTurn, LeavesFirst};
+ghost use Rattle.shared_runs.specs.Turns.{GoesOn, LeftInTurn};
+
+use crate::passing::{begin, close};
+use crate::Shared;
+use artifact_store::{Store, StoreMark};
+use cache_api::CacheErr;
+use std::alloc::Global;
+use store_dev::StoreDevice;
+
+/// A shared file between two turns of a run, with what is known of it.
+#[derive(Drop)]
+pub struct Turns<H> {
+    pub(crate) shared: H,
+    // Of the frames as the last turn ended. None is kept where a call of the turn failed.
+    pub(crate) mark: Option<StoreMark>,
+    pub(crate) room: u64,
+    // How many turns found a file that is no store.
+    pub(crate) damaged: u64,
+}
+
+impl<H: Shared> Turns<H> {
+    /// Takes the turn with a store. No mark is kept till it ends.
+    pub(crate) fn open_turn(&mut self, alloc: Global) -> Result<Store<H::Device>, CacheErr>
+        requires idle { (H.turn self.old.shared).held ≡ false }
+        requires whole { IsTrue (is_some self.old.mark) }
+        requires known { (m : StoreMark) → self.old.mark ≡ Some m → H.Device.tells
+            → IsMarked m (H.content self.old.shared) (H.images self.old.shared) }
+        ensures turn { (m : StoreMark) → self.old.mark ≡ Some m → IfOk result
+            (BeginsTurn H.Shared H.Device.StoreDevice self.old.shared (foreseen m) self.new.shared) }
+        ensures given { OnErr result ((H.turn self.new.shared).held ≡ false) }
+        ensures began { (H.turn self.new.shared).began ≡ H.moment self.old.shared }
+        ensures file { H.Device.tells → LeavesFirst H.Shared self.old.shared self.new.shared }
+        ensures grows { ends (H.coming self.old.shared) ≤ ends (H.coming self.new.shared) }
+        ensures mark { self.new.mark ≡ None }
+        ensures room { self.new.room ≤ self.old.room }
+        ensures free { IfOk result (λ s. self.new.room ≡ min self.old.room (state_of s).room) }
+        ensures same { OnErr result (self.new.room ≡ self.old.room) }
+        ensures told { H.Device.tells → self.new.damaged ≡ self.old.damaged }
+        ensures answers { IfErr result IsFindErr }
+        ensures cause { Counts is_fault (H.store_faults self.old.shared + self.old.damaged)
+            (H.store_faults self.new.shared + self.new.damaged) result }
+    {
+        let Some(mark) = self.mark.take() else {
+            return Err(CacheErr::Failed);
+        };
+        let store = begin(alloc, &mut self.shared, mark, &mut self.damaged)?;
+        self.room = self.room.min(store.free());
+        Ok(store)
+    }
+
+    /// Ends the turn of a store, and hands on what a call of it answered. Where the turn is not ended well, or that call
+    /// failed, no mark is kept.
+    pub(crate) fn close_turn<T: Drop>(
+        &mut self,
+        store: Store<H::Device>,
+        answer: Result<T, CacheErr>,
+    ) -> Result<T, CacheErr>
+        requires turn { IsInTurn H.Shared H.Device.StoreDevice self.old.shared (device_of store) }
+        requires mark { self.old.mark ≡ None }
+        requires cause { Counts is_fault (H.turn self.old.shared).count
+            (H.Device.store_faults (device_of store)) answer }
+        ensures held { (H.turn self.new.shared).held ≡ false }
+        ensures began { (H.turn self.new.shared).began ≡ (H.turn self.old.shared).began }
+        ensures file { H.Device.tells
+            → H.content self.new.shared ≡ H.Device.content (device_of store) }
+        ensures known { (m : StoreMark) → self.new.mark ≡ Some m → H.Device.tells
+            → lengths_of store ≡ Lengths.All
+            → IsMarked m (H.content self.new.shared) (H.images self.new.shared) }
+        ensures time { H.Device.tells → GoesOn H.moment H.images_since self.old.shared
+            self.new.shared (LeftInTurn (H.images self.old.shared)
+            (H.Device.images_since (device_of store) (H.turn self.old.shared).start)) }
+        ensures grows { ends (H.coming self.old.shared) ≤ ends (H.coming self.new.shared) }
+        ensures room { self.new.room ≡ self.old.room }
+        ensures damaged { self.new.damaged ≡ self.old.damaged }
+        ensures answer { OrFailed answer result }
+        ensures whole { StaysWhole result true (is_some self.new.mark) }
+        ensures cause { Counts is_fault (H.store_faults self.old.shared)
+            (H.store_faults self.new.shared) result }
+    {
+        let Ok(mark) = close(&mut self.shared, store) else {
+            return Err(CacheErr::Failed);
+        };
+        if is_failed(&answer) {
+            return Err(CacheErr::Failed);
+        }
+        let _none = self.mark.replace(mark);
+        answer
+    }
+}
+
+/// Whether a call failed.
+fn is_failed<T>(answer: &Result<T, CacheErr>) -> bool
+    ensures { result ≡ failed answer.now }
+{
+    match answer {
+        Err(CacheErr::Failed) => true,
+        _ => false,
+    }
+}
