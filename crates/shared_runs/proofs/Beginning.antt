@@ -66,12 +66,11 @@ module _ {H D : Type 0} (G : Ghosts H D) (K : DeviceGhosts D) (old new : H) (dev
   }
 
   pub begins_turn : (lengths : Lengths) (s : Store D K) → IsOpened device lengths s
-      → BeginsTurn G K old lengths new s
+      → BeginsTurn G K old new s
   begins_turn lengths s opened = record {
     turn = in_turn (store.device_of s) (omega (arith, opened.cause)) opened.images;
     fresh = begun.count ∙ sym opened.cause;
     whole = opened.whole;
-    foresees = opened.foresees;
     frames = λ told sound.
         sym (frames_is (K.content device) (store.frames_of s) (opened.opened told).frames)
         ∙ frames_is (K.content device) (G.coming old) (ap reading (holds told).same ∙ (taken told).frames sound);

@@ -20,10 +20,9 @@ use Rattle.pair_frames.specs.Pairs.{pairs_in, pairs_from}
 use Rattle.pair_frames.specs.Joins.{pairs_in-append}
 use Rattle.pair_reader.specs.Answers.{HitIsWithin}
 use Rattle.artifact_reader.specs.Parts.{shown_in}
-use Rattle.pair_reader.specs.declared.wanted.Lengths.TheVariants as lengths
 use Rattle.pair_index.specs.declared.seen.SeenPairs.{SeenPairs}
 use Rattle.pair_index.specs.Seen.{seen_pairs}
-use Rattle.pair_index.specs.Costs.{cost_seen}
+use Rattle.shared_runs.specs.Costs.{most_cost}
 use Rattle.artifact_store.specs.declared.mark.StoreMark.{StoreMark}
 use Rattle.artifact_store.proofs.Shown.{hit_more, hit_same}
 use Rattle.shared_runs.specs.declared.store.SharedStore.{SharedStore}
@@ -140,12 +139,12 @@ module _ {H D : Type 0} {G : Ghosts H D} {K : DeviceGhosts D} (old new : SharedS
           (holds_first (frames_in old) (coming_in old) (stays told) (file_of new) (first told).file);
       cost_same = λ told key.
           let (more, is) = starts told in
-          ap (λ (s : SeenPairs). cost_seen s lengths.All (frames_in new) key) seen
-          ∙ ap (λ (l : List Entry). cost_seen old.seen lengths.All l key) is
+          ap (λ (s : SeenPairs). most_cost s (frames_in new) key) seen
+          ∙ ap (λ (l : List Entry). most_cost old.seen l key) is
           ∙ cost_front (frames_in old) more
           (subst (λ (l : List Entry). all_formed [] l ≡ true) is
           (read_formed (file_of new) (frames_in new) (new.sees told).sound))
-          old.seen lengths.All key (sees_below mark was told);
+          old.seen key (sees_below mark was told);
       hits = hits_start old new starts;
       left = λ told. leaves_view old new (λ o. o ≡ Some (view_of old.seen (file_of old)))
           (HoldsFirst (length (frames_in old)) (coming_in old)) (ap is_some was) (starts told) (first told).goes began

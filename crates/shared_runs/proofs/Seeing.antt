@@ -1,5 +1,5 @@
 -- What is seen of pairs behind which others stand.
-use Rattle.std.proofs.Common.{◌≡◌, ℕ, zero, suc, ◌+◌, ◌*◌, ◌<◌, ◌≤◌, Bool, true, false, cond, List, [], ◌∷◌, ◌++◌, length, map, get_or, refl, sym, ◌∙◌, ap, subst, arith, length-append, append_assoc}
+use Rattle.std.proofs.Common.{◌≡◌, ℕ, zero, suc, ◌+◌, ◌*◌, ◌<◌, ◌≤◌, Bool, true, false, cond, List, [], ◌∷◌, ◌++◌, length, map, max, get_or, refl, sym, ◌∙◌, ap, subst, arith, length-append, append_assoc}
 use Rattle.std.specs.Prelude.{◌||◌, nat_lt, nat_eq}
 use Rattle.std.specs.List.{All, list_any}
 use Rattle.std.proofs.lemmas.Bool.{le-ltb, ne_eqb}
@@ -21,6 +21,7 @@ use Rattle.pair_reader.specs.declared.wanted.Lengths.{Lengths}
 use Rattle.pair_index.specs.declared.seen.SeenPairs.{SeenPairs}
 use Rattle.pair_index.specs.Keys.{is_sought_by_print}
 use Rattle.pair_index.specs.Costs.{reads_pair, sum_where, costs_in, cost_seen}
+use Rattle.shared_runs.specs.Costs.{cost_by, most_cost}
 use Rattle.pair_index.specs.Seen.{is_seen, numbered, seen_pairs}
 
 -- ---- numbers that are seen
@@ -127,14 +128,11 @@ module _ (fs more : List Entry) (formed : all_formed [] (fs ++ more) ≡ true) w
       ∙ ap (λ (l : List ℕ). l ++ map (frame.cost_of (fs ++ more)) (record_places (0 + length fs) more))
       (map_same (frame.cost_of (fs ++ more)) (frame.cost_of fs) places cost_one)
 
-  -- what is seen costs what it did
-  pub cost_front : (seen : SeenPairs) (lengths : Lengths) (key : List ℕ) → SeesBelow seen (length (pairs_in fs))
-      → cost_seen seen lengths (fs ++ more) key ≡ cost_seen seen lengths fs key
-  unfolding cost_seen
-  cost_front seen lengths key below =
+  cost_same : (seen : SeenPairs) (by : Bool) (key : List ℕ) → SeesBelow seen (length (pairs_in fs))
+      → cost_by by seen (fs ++ more) key ≡ cost_by by seen fs key
+  cost_same seen by key below =
       let even : length (costs_in frame.cost_of fs) ≡ length (pairs_in fs) =
       length-map places (frame.cost_of fs) ∙ length-record_places fs in
-      let test = reads_pair (is_sought_by_print lengths key) key in
       let costs : seen_pairs seen (costs_in frame.cost_of (fs ++ more)) ≡ seen_pairs seen (costs_in frame.cost_of fs) =
       ap (seen_pairs seen) costs_are
       ∙ seen_front seen (costs_in frame.cost_of fs) (map (frame.cost_of (fs ++ more)) (record_places (0 + length fs) more))
@@ -142,4 +140,22 @@ module _ (fs more : List Entry) (formed : all_formed [] (fs ++ more) ≡ true) w
       let pairs : seen_pairs seen (pairs_in (fs ++ more)) ≡ seen_pairs seen (pairs_in fs) =
       ap (seen_pairs seen) (pairs_in-append fs more)
       ∙ seen_front seen (pairs_in fs) (pairs_from (contents_of fs) more) below in
-      λ i. sum_where test (costs i) (pairs i)
+      λ i. sum_where (reads_pair by key) (costs i) (pairs i)
+
+  -- what is seen costs what it did
+  pub cost_front : (seen : SeenPairs) (key : List ℕ) → SeesBelow seen (length (pairs_in fs))
+      → most_cost seen (fs ++ more) key ≡ most_cost seen fs key
+  unfolding most_cost
+  cost_front seen key below = λ i. max (cost_same seen true key below i) (cost_same seen false key below i)
+
+-- ---- a store seeks by one or the other
+
+most_by : (by : Bool) (seen : SeenPairs) (fs : List Entry) (key : List ℕ) → cost_by by seen fs key ≤ most_cost seen fs key
+unfolding most_cost
+most_by true seen fs key = omega arith
+most_by false seen fs key = omega arith
+
+pub cost_most : (seen : SeenPairs) (lengths : Lengths) (fs : List Entry) (key : List ℕ)
+    → cost_seen seen lengths fs key ≤ most_cost seen fs key
+unfolding cost_seen
+cost_most seen lengths fs key = most_by (is_sought_by_print lengths key) seen fs key

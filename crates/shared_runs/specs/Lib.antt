@@ -11,5 +11,7 @@ pub mod Marked
 pub mod Passing
 pub mod Errors
 pub mod First
+pub mod Passes
+pub mod Costs
 pub mod Shared
 pub mod Opened

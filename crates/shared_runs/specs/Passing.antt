@@ -3,7 +3,6 @@ use Rattle.std.specs.Prelude.{◌≡◌, ℕ, ◌≤◌, true, false, List, leng
 use Rattle.store_dev.specs.Device.{Only}
 use Rattle.store_dev.specs.declared.device.StoreDevice.{Ghosts as DeviceGhosts}
 use Rattle.record_log.specs.Frames.{reading, frames_of, IsSound}
-use Rattle.pair_reader.specs.declared.wanted.Lengths.{Lengths}
 use Rattle.artifact_store.specs.declared.store.Store.{Store}
 use Rattle.artifact_store.specs.Store as store
 use Rattle.shared_runs.specs.declared.turn.Shared.{Ghosts}
@@ -22,12 +21,11 @@ pub record IsInTurn {H D : Type 0} (G : Ghosts H D) (K : DeviceGhosts D) (file :
 
 -- The store with which a turn begins: where the file was sound, it has the frames that were to come, and
 -- a crash since the turn was taken leaves these.
-pub record BeginsTurn {H D : Type 0} (G : Ghosts H D) (K : DeviceGhosts D) (old : H) (lengths : Lengths)
-    (new : H) (s : Store D K) : Type 0 where
+pub record BeginsTurn {H D : Type 0} (G : Ghosts H D) (K : DeviceGhosts D) (old new : H)
+    (s : Store D K) : Type 0 where
   pub turn : IsInTurn G K new (store.device_of s)
   pub fresh : (G.turn new).count ≡ K.store_faults (store.device_of s)
   pub whole : IsTrue (store.state_of s).whole
-  pub foresees : store.lengths_of s ≡ lengths
   pub frames : K.tells → IsSound (G.content old) → store.frames_of s ≡ G.coming old
   pub read : K.tells → IsSound (G.content old) → reading (G.content new) ≡ Ok (G.coming old)
   pub durable : K.tells → IsSound (G.content old) → Only (G.content new) (G.images new)

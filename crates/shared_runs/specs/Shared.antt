@@ -13,11 +13,10 @@ use Rattle.record_log.specs.Kinds.{Entry}
 use Rattle.record_log.specs.Frames.{frames_of, ends, text_of}
 use Rattle.artifact_reader.specs.Parts.{shown_in}
 use Rattle.pair_reader.specs.Answers.{HitIsWithin}
-use Rattle.pair_reader.specs.declared.wanted.Lengths.TheVariants as lengths
-use Rattle.pair_index.specs.Costs.{cost_seen}
 use Rattle.artifact_store.specs.Outcomes.{outcomes}
 use Rattle.shared_runs.specs.declared.store.SharedStore.{SharedStore}
 use Rattle.shared_runs.specs.declared.turn.Shared.{Ghosts}
+use Rattle.shared_runs.specs.Costs.{most_cost}
 use Rattle.shared_runs.specs.Views.{pairs_at, view_of, Says}
 
 module _ {H D : Type 0} {G : Ghosts H D} {K : DeviceGhosts D} where
@@ -66,7 +65,7 @@ module _ {H D : Type 0} {G : Ghosts H D} {K : DeviceGhosts D} where
 
   -- how often a turn's store may be read to look up a key among the pairs that are seen, and then what was found
   abbrev pub cost_of : SharedStore H D G K → List ℕ → ℕ
-  cost_of s key = cost_seen s.seen lengths.All (frames_in s) key
+  cost_of s key = most_cost s.seen (frames_in s) key
 
   -- for which of these pairs there is room behind the frames to come, one after another
   abbrev pub stores : SharedStore H D G K → List Pair → List Put

@@ -2,9 +2,7 @@
 ghost use Rattle.std.specs.Prelude.{◌≡◌, false, IfOk, IfErr};
 ghost use Rattle.rel_path.specs.Causes.{Counts};
 ghost use Rattle.record_log.specs.Frames.{reading};
-ghost use Rattle.pair_reader.specs.declared.wanted.Lengths.TheVariants as Lengths;
 ghost use Rattle.artifact_store.specs.Answers.{IsFaultOf, is_fault};
-ghost use Rattle.artifact_store.specs.Marks.{foreseen};
 ghost use Rattle.shared_runs.specs.Errors.{to_open};
 ghost use Rattle.shared_runs.specs.First.{IsFirstTurn, TellsFile};
 ghost use Rattle.shared_runs.specs.Frames.{HoldsOneOrMore};
@@ -32,7 +30,6 @@ pub(crate) fn first_turn<H: Shared>(alloc: Global, shared: &mut H) -> Result<Fir
     ensures turn { H.Device.tells → IfOk result (λ turn. IsFirstTurn (H.content shared.old)
         (H.coming shared.old) (H.content shared.new)
         × TellsFile turn.mark turn.pairs turn.room (H.content shared.new) (H.images shared.new)) }
-    ensures foresees { IfOk result (λ turn. foreseen turn.mark ≡ Lengths.All) }
     ensures fault { H.Device.tells
         → IfErr result (λ e. IsFaultOf e (reading (H.content shared.old))) }
     ensures time { H.Device.tells → GoesOn H.moment H.images_since shared.old shared.new

@@ -2,8 +2,8 @@
 ghost use Rattle.std.specs.Prelude.{◌≡◌, ◌≤◌, ◌+◌, ◌-◌, ◌^◌, true, false, IfOk, IfErr, OnOk, OnErr};
 ghost use Rattle.rel_path.specs.Causes.{Counts, Rose};
 ghost use Rattle.cache_api.specs.Cache.{IsFindErr, is_fault as is_cache_fault};
-ghost use Rattle.artifact_store.specs.Marks.{IsMarkOf, foreseen};
-ghost use Rattle.artifact_store.specs.Store.{device_of, lengths_of};
+ghost use Rattle.artifact_store.specs.Marks.{IsMarkOf};
+ghost use Rattle.artifact_store.specs.Store.{device_of};
 ghost use Rattle.shared_runs.specs.Errors.{of_turn, of_opening, is_damage};
 ghost use Rattle.store_dev.specs.Device.{Only, Within};
 ghost use Rattle.record_log.specs.Frames.{IsSound, ends, frames_of};
@@ -88,7 +88,7 @@ pub(crate) fn begin<H: Shared>(
     requires sound { H.Device.tells → IsSound (H.content shared.old) }
     requires durable { H.Device.tells → Only (H.content shared.old) (H.images shared.old) }
     ensures turn { IfOk result
-        (BeginsTurn H.Shared H.Device.StoreDevice shared.old (foreseen mark) shared.new) }
+        (BeginsTurn H.Shared H.Device.StoreDevice shared.old shared.new) }
     ensures given { OnErr result ((H.turn shared.new).held ≡ false) }
     ensures began { (H.turn shared.new).began ≡ H.moment shared.old }
     ensures file { H.Device.tells → LeavesFirst H.Shared shared.old shared.new }
@@ -125,7 +125,6 @@ pub(crate) fn close<H: Shared>(
     ensures file { H.Device.tells → H.content shared.new ≡ H.Device.content (device_of store) }
     ensures mark { H.Device.tells
         → IfOk result (λ mark. IsMarkOf mark (frames_of (H.content shared.new))) }
-    ensures foresees { IfOk result (λ mark. foreseen mark ≡ lengths_of store) }
     ensures durable { H.Device.tells
         → OnOk result (Only (H.content shared.new) (H.images shared.new)) }
     ensures time { H.Device.tells → GoesOn H.moment H.images_since shared.old shared.new

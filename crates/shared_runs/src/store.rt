@@ -31,8 +31,6 @@ pub struct SharedStore<H: Shared> {
 }
 
 impl<H: Shared> SharedStore<H> {
-    ghost use Rattle.pair_reader.specs.declared.wanted.Lengths.TheVariants as Lengths;
-    ghost use Rattle.artifact_store.specs.Marks.{foreseen};
     ghost use Rattle.shared_runs.specs.First.{TellsFile};
     ghost use Rattle.shared_runs.specs.Opened.{IsOpened, IsUnopened};
 
@@ -65,7 +63,6 @@ impl<H: Shared> SharedStore<H> {
         room: u64,
     ) -> SharedStore<H>
         requires turn { (H.turn shared).held ≡ false }
-        requires foresees { foreseen mark ≡ Lengths.All }
         requires file { H.Device.tells
             → TellsFile mark first room (H.content shared) (H.images shared) }
         ensures shared { result.turns.shared ≡ shared }

@@ -1,21 +1,32 @@
 // The turns of a run, one after another.
-ghost use Rattle.std.specs.Prelude.{◌≡◌, ◌≤◌, ◌+◌, Some, None, true, false, is_some, min, IsTrue, IfOk, IfErr, OnErr};
+ghost use Rattle.std.specs.Prelude.{◌≡◌, ◌≤◌, ◌+◌, Some, None, true, false, is_some, min, IsTrue, IfOk, IfErr, IfSome, OnErr};
 ghost use Rattle.rel_path.specs.Causes.{Counts};
-ghost use Rattle.record_log.specs.Frames.{ends};
+ghost use Rattle.record_log.specs.Frames.{IsSound, ends, frames_of, text_of};
 ghost use Rattle.cache_api.specs.Cache.{IsFindErr, StaysWhole, is_fault};
 ghost use Rattle.artifact_store.specs.declared.mark.StoreMark.{StoreMark};
-ghost use Rattle.pair_reader.specs.declared.wanted.Lengths.TheVariants as Lengths;
-ghost use Rattle.artifact_store.specs.Marks.{foreseen};
-ghost use Rattle.artifact_store.specs.Store.{device_of, lengths_of, state_of};
+ghost use Rattle.artifact_store.specs.Marks.{IsMarkOf};
+ghost use Rattle.artifact_store.specs.Store.{state_of};
+ghost use Rattle.shared_runs.specs.Costs.{most_cost};
 ghost use Rattle.shared_runs.specs.Errors.{OrFailed, failed};
 ghost use Rattle.shared_runs.specs.Marked.{IsMarked};
 ghost use Rattle.shared_runs.specs.Passing.{IsInTurn, BeginsTurn, LeavesFirst};
 ghost use Rattle.shared_runs.specs.Turns.{GoesOn, LeftInTurn};
+ghost use Rattle.codes.specs.Views.{found_as};
+ghost use Rattle.cache_api.specs.Found.{found};
+ghost use Rattle.cache_api.specs.Hits.{paths_ascend, owns_paths, span_count};
+ghost use Rattle.cache_api.specs.Keys.{text_of as text_in};
+ghost use Rattle.cache_api.specs.Reading.{artifact_in};
+ghost use Rattle.pair_frames.specs.Pairs.{pairs_in};
+ghost use Rattle.artifact_reader.specs.Parts.{shown_in};
+ghost use Rattle.pair_reader.specs.Answers.{HitIsWithin};
+ghost use Rattle.pair_index.specs.Seen.{seen_pairs};
 
-use crate::passing::{begin, close};
+use crate::passing::{begin, end_turn};
 use crate::Shared;
 use artifact_store::{Store, StoreMark};
-use cache_api::CacheErr;
+use cache_api::{CacheErr, Hit, Key};
+use globs::OutSet;
+use pair_index::SeenPairs;
 use std::alloc::Global;
 use store_dev::StoreDevice;
 
@@ -37,8 +48,8 @@ impl<H: Shared> Turns<H> {
         requires whole { IsTrue (is_some self.old.mark) }
         requires known { (m : StoreMark) → self.old.mark ≡ Some m → H.Device.tells
             → IsMarked m (H.content self.old.shared) (H.images self.old.shared) }
-        ensures turn { (m : StoreMark) → self.old.mark ≡ Some m → IfOk result
-            (BeginsTurn H.Shared H.Device.StoreDevice self.old.shared (foreseen m) self.new.shared) }
+        ensures turn { IfOk result
+            (BeginsTurn H.Shared H.Device.StoreDevice self.old.shared self.new.shared) }
         ensures given { OnErr result ((H.turn self.new.shared).held ≡ false) }
         ensures began { (H.turn self.new.shared).began ≡ H.moment self.old.shared }
         ensures file { H.Device.tells → LeavesFirst H.Shared self.old.shared self.new.shared }
@@ -60,27 +71,28 @@ impl<H: Shared> Turns<H> {
         Ok(store)
     }
 
-    /// Ends the turn of a store, and hands on what a call of it answered. Where the turn is not ended well, or that call
-    /// failed, no mark is kept.
+    /// Ends the turn with its device, of whose frames the mark tells, and hands on what a call in it answered. Where the
+    /// turn is not ended well, or that call failed, no mark is kept.
     pub(crate) fn close_turn<T: Drop>(
         &mut self,
-        store: Store<H::Device>,
+        mark: StoreMark,
+        device: H::Device,
         answer: Result<T, CacheErr>,
     ) -> Result<T, CacheErr>
-        requires turn { IsInTurn H.Shared H.Device.StoreDevice self.old.shared (device_of store) }
-        requires mark { self.old.mark ≡ None }
+        requires turn { IsInTurn H.Shared H.Device.StoreDevice self.old.shared device }
+        requires none { self.old.mark ≡ None }
+        requires sound { H.Device.tells → IsSound (H.Device.content device) }
+        requires mark { H.Device.tells → IsMarkOf mark (frames_of (H.Device.content device)) }
         requires cause { Counts is_fault (H.turn self.old.shared).count
-            (H.Device.store_faults (device_of store)) answer }
+            (H.Device.store_faults device) answer }
         ensures held { (H.turn self.new.shared).held ≡ false }
         ensures began { (H.turn self.new.shared).began ≡ (H.turn self.old.shared).began }
-        ensures file { H.Device.tells
-            → H.content self.new.shared ≡ H.Device.content (device_of store) }
+        ensures file { H.Device.tells → H.content self.new.shared ≡ H.Device.content device }
         ensures known { (m : StoreMark) → self.new.mark ≡ Some m → H.Device.tells
-            → lengths_of store ≡ Lengths.All
             → IsMarked m (H.content self.new.shared) (H.images self.new.shared) }
         ensures time { H.Device.tells → GoesOn H.moment H.images_since self.old.shared
             self.new.shared (LeftInTurn (H.images self.old.shared)
-            (H.Device.images_since (device_of store) (H.turn self.old.shared).start)) }
+            (H.Device.images_since device (H.turn self.old.shared).start)) }
         ensures grows { ends (H.coming self.old.shared) ≤ ends (H.coming self.new.shared) }
         ensures room { self.new.room ≡ self.old.room }
         ensures damaged { self.new.damaged ≡ self.old.damaged }
@@ -89,7 +101,7 @@ impl<H: Shared> Turns<H> {
         ensures cause { Counts is_fault (H.store_faults self.old.shared)
             (H.store_faults self.new.shared) result }
     {
-        let Ok(mark) = close(&mut self.shared, store) else {
+        let Ok(()) = end_turn(&mut self.shared, device) else {
             return Err(CacheErr::Failed);
         };
         if is_failed(&answer) {
@@ -107,5 +119,44 @@ fn is_failed<T>(answer: &Result<T, CacheErr>) -> bool
     match answer {
         Err(CacheErr::Failed) => true,
         _ => false,
+    }
+}
+
+impl<H: Shared> Turns<H> {
+    ghost use Rattle.shared_runs.specs.Passes.{PassesTurn};
+
+    /// Where the artifact stands that the last pair with that key gives which gives one, of the pairs that are seen.
+    pub(crate) fn look(
+        &mut self,
+        alloc: Global,
+        key: Key,
+        outs: &OutSet,
+        seen: &SeenPairs,
+    ) -> Result<Option<Hit>, CacheErr>
+        requires idle { (H.turn self.old.shared).held ≡ false }
+        requires whole { IsTrue (is_some self.old.mark) }
+        requires known { (m : StoreMark) → self.old.mark ≡ Some m → H.Device.tells
+            → IsMarked m (H.content self.old.shared) (H.images self.old.shared) }
+        ensures turn { PassesTurn H.Shared H.Device.StoreDevice self.old self.new }
+        ensures room { self.new.room ≤ self.old.room }
+        ensures found { H.Device.tells → IfOk result (λ o.
+            found_as (shown_in (text_of (H.coming self.old.shared))) o
+            ≡ found artifact_in (text_in key.entry) outs.now
+            (seen_pairs seen.now (pairs_in (H.coming self.old.shared)))) }
+        ensures within { H.Device.tells → IfOk result (λ o. IfSome o
+            (HitIsWithin (text_of (H.coming self.old.shared)))) }
+        ensures fits { IfOk result (λ o. IfSome o (λ hit.
+            IsTrue (paths_ascend hit) × IsTrue (owns_paths outs.now hit))) }
+        ensures spans { H.Device.tells → IfOk result (λ o. IfSome o (λ hit. span_count hit
+            ≤ most_cost seen.now (H.coming self.old.shared) (text_in key.entry))) }
+        ensures stays { StaysWhole result true (is_some self.new.mark) }
+        ensures answers { IfErr result IsFindErr }
+        ensures cause { Counts is_fault (H.store_faults self.old.shared + self.old.damaged)
+            (H.store_faults self.new.shared + self.new.damaged) result }
+    {
+        let mut store = self.open_turn(alloc)?;
+        let found = store.lookup_seen(alloc, key, outs, seen);
+        let (mark, device) = store.rest();
+        self.close_turn(mark, device, found)
     }
 }
