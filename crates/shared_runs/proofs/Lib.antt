@@ -9,3 +9,4 @@ pub mod Formed
 pub mod Seeing
 pub mod Leaving
 pub mod Passed
+pub mod Texts

@@ -6,6 +6,7 @@ mod first;
 mod memory;
 mod others;
 mod passing;
+mod reading;
 mod store;
 mod turn;
 mod turns;

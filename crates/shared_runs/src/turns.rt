@@ -17,16 +17,18 @@ ghost use Rattle.cache_api.specs.Hits.{paths_ascend, owns_paths, span_count};
 ghost use Rattle.cache_api.specs.Keys.{text_of as text_in};
 ghost use Rattle.cache_api.specs.Reading.{artifact_in};
 ghost use Rattle.pair_frames.specs.Pairs.{pairs_in};
-ghost use Rattle.artifact_reader.specs.Parts.{shown_in};
-ghost use Rattle.pair_reader.specs.Answers.{HitIsWithin};
+ghost use Rattle.artifact_reader.specs.Parts.{shown, shown_in};
+ghost use Rattle.pair_reader.specs.Answers.{AllWithin, HitIsWithin};
 ghost use Rattle.pair_index.specs.Seen.{seen_pairs};
 
 use crate::passing::{begin, end_turn};
+use crate::reading::read_spans;
 use crate::Shared;
 use artifact_store::{Store, StoreMark};
 use cache_api::{CacheErr, Hit, Key};
 use globs::OutSet;
 use pair_index::SeenPairs;
+use rel_path::{Bytes, Span};
 use std::alloc::Global;
 use store_dev::StoreDevice;
 
@@ -112,16 +114,6 @@ impl<H: Shared> Turns<H> {
     }
 }
 
-/// Whether a call failed.
-fn is_failed<T>(answer: &Result<T, CacheErr>) -> bool
-    ensures { result ≡ failed answer.now }
-{
-    match answer {
-        Err(CacheErr::Failed) => true,
-        _ => false,
-    }
-}
-
 impl<H: Shared> Turns<H> {
     ghost use Rattle.shared_runs.specs.Passes.{PassesTurn};
 
@@ -158,5 +150,39 @@ impl<H: Shared> Turns<H> {
         let found = store.lookup_seen(alloc, key, outs, seen);
         let (mark, device) = store.rest();
         self.close_turn(mark, device, found)
+    }
+
+    /// The bytes at these places of the text of the frames, one behind the other.
+    pub(crate) fn read(&mut self, alloc: Global, spans: &[Span]) -> Result<Bytes, CacheErr>
+        requires idle { (H.turn self.old.shared).held ≡ false }
+        requires whole { IsTrue (is_some self.old.mark) }
+        requires known { (m : StoreMark) → self.old.mark ≡ Some m → H.Device.tells
+            → IsMarked m (H.content self.old.shared) (H.images self.old.shared) }
+        requires within { H.Device.tells
+            → AllWithin (text_of (frames_of (H.content self.old.shared))) spans.now }
+        ensures turn { PassesTurn H.Shared H.Device.StoreDevice self.old self.new }
+        ensures room { self.new.room ≤ self.old.room }
+        ensures bytes { H.Device.tells → IfOk result (λ bytes. bytes
+            ≡ shown (text_of (frames_of (H.content self.old.shared))) spans.now) }
+        ensures stays { StaysWhole result true (is_some self.new.mark) }
+        ensures answers { IfErr result IsFindErr }
+        ensures cause { Counts is_fault (H.store_faults self.old.shared + self.old.damaged)
+            (H.store_faults self.new.shared + self.new.damaged) result }
+    {
+        let store = self.open_turn(alloc)?;
+        let (mark, device) = store.rest();
+        let mut device = device;
+        let bytes = read_spans(alloc, &mut device, spans);
+        self.close_turn(mark, device, bytes)
+    }
+}
+
+/// Whether a call failed.
+fn is_failed<T>(answer: &Result<T, CacheErr>) -> bool
+    ensures { result ≡ failed answer.now }
+{
+    match answer {
+        Err(CacheErr::Failed) => true,
+        _ => false,
     }
 }
