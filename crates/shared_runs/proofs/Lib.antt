@@ -5,6 +5,7 @@ pub mod Fronts
 pub mod Beginning
 pub mod Starting
 pub mod Ending
+pub mod Putting
 pub mod Formed
 pub mod Seeing
 pub mod Leaving

@@ -26,11 +26,6 @@ is_damage store.NotAStore = true
 is_damage (store.Damaged at) = true
 is_damage _ = false
 
--- a call failed
-abbrev pub failed : {T : Type 0} → Result T CacheErr → Bool
-failed (Err cache.Failed) = true
-failed _ = false
-
 -- what was answered is answered, or the turn was not ended well
 abbrev pub OrFailed : {T : Type 0} → Result T CacheErr → Result T CacheErr → Type 0
 OrFailed answer result = (result ≡ answer) ⊎ (result ≡ Err cache.Failed)

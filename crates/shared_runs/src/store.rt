@@ -76,6 +76,7 @@ impl<H: Shared> SharedStore<H> {
                 shared,
                 mark: Some(mark),
                 room,
+                count: first,
                 damaged: 0,
             },
             seen: SeenPairs {

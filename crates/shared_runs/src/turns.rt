@@ -1,20 +1,20 @@
 // The turns of a run, one after another.
-ghost use Rattle.std.specs.Prelude.{◌≡◌, ◌≤◌, ◌+◌, Some, None, true, false, is_some, min, IsTrue, IfOk, IfErr, IfSome, OnErr};
+ghost use Rattle.std.specs.Prelude.{◌≡◌, ◌≤◌, ◌+◌, Some, None, true, false, is_some, min, length, IsTrue, IfOk, IfErr, IfSome, OnErr};
 ghost use Rattle.rel_path.specs.Causes.{Counts};
 ghost use Rattle.record_log.specs.Frames.{IsSound, ends, frames_of, text_of};
-ghost use Rattle.cache_api.specs.Cache.{IsFindErr, StaysWhole, is_fault};
+ghost use Rattle.cache_api.specs.Cache.{ArePut, IsFindErr, StaysWhole, is_fault};
 ghost use Rattle.artifact_store.specs.declared.mark.StoreMark.{StoreMark};
 ghost use Rattle.artifact_store.specs.Marks.{IsMarkOf};
 ghost use Rattle.artifact_store.specs.Store.{state_of};
 ghost use Rattle.shared_runs.specs.Costs.{most_cost};
-ghost use Rattle.shared_runs.specs.Errors.{OrFailed, failed};
+ghost use Rattle.shared_runs.specs.Errors.{OrFailed};
 ghost use Rattle.shared_runs.specs.Marked.{IsMarked};
 ghost use Rattle.shared_runs.specs.Passing.{IsInTurn, BeginsTurn, LeavesFirst};
 ghost use Rattle.shared_runs.specs.Turns.{GoesOn, LeftInTurn};
 ghost use Rattle.codes.specs.Views.{found_as};
 ghost use Rattle.cache_api.specs.Found.{found};
 ghost use Rattle.cache_api.specs.Hits.{paths_ascend, owns_paths, span_count};
-ghost use Rattle.cache_api.specs.Keys.{text_of as text_in};
+ghost use Rattle.cache_api.specs.Keys.{text_of as text_in, new_pairs};
 ghost use Rattle.cache_api.specs.Reading.{artifact_in};
 ghost use Rattle.pair_frames.specs.Pairs.{pairs_in};
 ghost use Rattle.artifact_reader.specs.Parts.{shown, shown_in};
@@ -25,7 +25,7 @@ use crate::passing::{begin, end_turn};
 use crate::reading::read_spans;
 use crate::Shared;
 use artifact_store::{Store, StoreMark};
-use cache_api::{CacheErr, Hit, Key};
+use cache_api::{Cache, CacheErr, Hit, Key, NewPair, Puts};
 use globs::OutSet;
 use pair_index::SeenPairs;
 use rel_path::{Bytes, Span};
@@ -39,6 +39,8 @@ pub struct Turns<H> {
     // Of the frames as the last turn ended. None is kept where a call of the turn failed.
     pub(crate) mark: Option<StoreMark>,
     pub(crate) room: u64,
+    // How many pairs the file had as the last turn was taken.
+    pub(crate) count: u64,
     // How many turns found a file that is no store.
     pub(crate) damaged: u64,
 }
@@ -60,6 +62,8 @@ impl<H: Shared> Turns<H> {
         ensures room { self.new.room ≤ self.old.room }
         ensures free { IfOk result (λ s. self.new.room ≡ min self.old.room (state_of s).room) }
         ensures same { OnErr result (self.new.room ≡ self.old.room) }
+        ensures count { H.Device.tells
+            → IfOk result (λ s. self.new.count ≡ length (state_of s).pairs) }
         ensures told { H.Device.tells → self.new.damaged ≡ self.old.damaged }
         ensures answers { IfErr result IsFindErr }
         ensures cause { Counts is_fault (H.store_faults self.old.shared + self.old.damaged)
@@ -70,11 +74,12 @@ impl<H: Shared> Turns<H> {
         };
         let store = begin(alloc, &mut self.shared, mark, &mut self.damaged)?;
         self.room = self.room.min(store.free());
+        self.count = store.count();
         Ok(store)
     }
 
-    /// Ends the turn with its device, of whose frames the mark tells, and hands on what a call in it answered. Where the
-    /// turn is not ended well, or that call failed, no mark is kept.
+    /// Ends the turn with its device, of whose frames the mark tells, and hands on what a call in it answered. The mark is
+    /// kept where the turn ended well and that call answered no error.
     pub(crate) fn close_turn<T: Drop>(
         &mut self,
         mark: StoreMark,
@@ -85,6 +90,7 @@ impl<H: Shared> Turns<H> {
         requires none { self.old.mark ≡ None }
         requires sound { H.Device.tells → IsSound (H.Device.content device) }
         requires mark { H.Device.tells → IsMarkOf mark (frames_of (H.Device.content device)) }
+        requires answers { IfErr answer IsFindErr }
         requires cause { Counts is_fault (H.turn self.old.shared).count
             (H.Device.store_faults device) answer }
         ensures held { (H.turn self.new.shared).held ≡ false }
@@ -97,25 +103,25 @@ impl<H: Shared> Turns<H> {
             (H.Device.images_since device (H.turn self.old.shared).start)) }
         ensures grows { ends (H.coming self.old.shared) ≤ ends (H.coming self.new.shared) }
         ensures room { self.new.room ≡ self.old.room }
+        ensures count { self.new.count ≡ self.old.count }
         ensures damaged { self.new.damaged ≡ self.old.damaged }
         ensures answer { OrFailed answer result }
         ensures whole { StaysWhole result true (is_some self.new.mark) }
+        ensures dropped { OnErr result (self.new.mark ≡ None) }
         ensures cause { Counts is_fault (H.store_faults self.old.shared)
             (H.store_faults self.new.shared) result }
     {
         let Ok(()) = end_turn(&mut self.shared, device) else {
             return Err(CacheErr::Failed);
         };
-        if is_failed(&answer) {
-            return Err(CacheErr::Failed);
-        }
+        let value = answer?;
         let _none = self.mark.replace(mark);
-        answer
+        Ok(value)
     }
 }
 
 impl<H: Shared> Turns<H> {
-    ghost use Rattle.shared_runs.specs.Passes.{PassesTurn};
+    ghost use Rattle.shared_runs.specs.Passes.{PassesTurn, PutsTurn, IsPut};
 
     /// Where the artifact stands that the last pair with that key gives which gives one, of the pairs that are seen.
     pub(crate) fn look(
@@ -175,14 +181,31 @@ impl<H: Shared> Turns<H> {
         let bytes = read_spans(alloc, &mut device, spans);
         self.close_turn(mark, device, bytes)
     }
-}
 
-/// Whether a call failed.
-fn is_failed<T>(answer: &Result<T, CacheErr>) -> bool
-    ensures { result ≡ failed answer.now }
-{
-    match answer {
-        Err(CacheErr::Failed) => true,
-        _ => false,
+    /// Adds pairs behind the frames that the file has as the turn is taken, in one append, and tells of each whether there
+    /// was room.
+    pub(crate) fn put(&mut self, alloc: Global, pairs: &[NewPair]) -> Result<Puts, CacheErr>
+        requires idle { (H.turn self.old.shared).held ≡ false }
+        requires whole { IsTrue (is_some self.old.mark) }
+        requires known { (m : StoreMark) → self.old.mark ≡ Some m → H.Device.tells
+            → IsMarked m (H.content self.old.shared) (H.images self.old.shared) }
+        ensures turn { PutsTurn H.Shared H.Device.StoreDevice (new_pairs pairs.now) self.old self.new }
+        ensures done { H.Device.tells → IfOk result
+            (IsPut (H.coming self.old.shared) (new_pairs pairs.now) (H.content self.new.shared) self.new.count) }
+        ensures put { IfOk result (λ puts. ArePut self.new.room (new_pairs pairs.now) puts) }
+        ensures room { self.new.room ≤ self.old.room }
+        ensures stays { StaysWhole result true (is_some self.new.mark) }
+        ensures dropped { OnErr result (self.new.mark ≡ None) }
+        ensures answers { IfErr result IsFindErr }
+        ensures cause { Counts is_fault (H.store_faults self.old.shared + self.old.damaged)
+            (H.store_faults self.new.shared + self.new.damaged) result }
+    {
+        let mut store = self.open_turn(alloc)?;
+        let answer = store.put_all(alloc, pairs);
+        let free = store.free();
+        let (mark, device) = store.rest();
+        let puts = self.close_turn(mark, device, answer)?;
+        self.room = self.room.min(free);
+        Ok(puts)
     }
 }
