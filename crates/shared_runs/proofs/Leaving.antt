@@ -16,7 +16,7 @@ use Rattle.shared_runs.specs.Turns.{GoesOn}
 use Rattle.shared_runs.specs.Views.{view_of, IsFrontOf, IsLeft, Says}
 use Rattle.shared_runs.proofs.Fronts.{starts_few, front_same}
 
-true_apart : (b : Bool) → b ≡ true → b ≡ false → ⊥
+pub true_apart : (b : Bool) → b ≡ true → b ≡ false → ⊥
 true_apart true is not_so = absurd cc
 true_apart false is not_so = absurd cc
 

@@ -11,3 +11,5 @@ pub mod Seeing
 pub mod Leaving
 pub mod Passed
 pub mod Texts
+pub mod Calls
+pub mod Owning

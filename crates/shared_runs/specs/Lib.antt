@@ -6,6 +6,7 @@ pub mod HistoryLaws
 pub mod Appended
 pub mod MemShared
 pub mod MemLaws
+pub mod Own
 pub mod Views
 pub mod Marked
 pub mod Passing
@@ -14,4 +15,5 @@ pub mod First
 pub mod Passes
 pub mod Costs
 pub mod Shared
+pub mod SharedLaws
 pub mod Opened

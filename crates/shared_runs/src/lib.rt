@@ -2,9 +2,11 @@
 #![tactic(auto)]
 
 mod appended;
+mod cache;
 mod first;
 mod memory;
 mod others;
+mod own;
 mod passing;
 mod reading;
 mod store;
