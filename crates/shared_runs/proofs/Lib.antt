@@ -13,3 +13,4 @@ pub mod Passed
 pub mod Texts
 pub mod Calls
 pub mod Owning
+pub mod PutCalls
