@@ -58,10 +58,21 @@ module _ {D : Type 0} (G : Ghosts D) (start : D) (only : Only (G.content start) 
   then c (inl is) = inl (bytes, refl, is ∙ sym read)
   then c (inr is) =
       let few : length (frames_of bytes) ≤ length all =
-      omega (arith, ap length all_is, ap length (frames_is bytes es read),
-      length-append es (added (store.state_of s).room es news)) in
-      inr (sound_is bytes es read, (length all, few, omega arith,
-      is ∙ ap (λ (l : List Entry). Ok l) (all_is ∙ sym (take_all (length all) all (omega arith)))))
+      omega (
+        arith,
+        ap length all_is,
+        ap length (frames_is bytes es read),
+        length-append es (added (store.state_of s).room es news),
+      ) in
+      inr (
+        sound_is bytes es read,
+        (
+          length all,
+          few,
+          omega arith,
+          is ∙ ap (λ (l : List Entry). Ok l) (all_is ∙ sym (take_all (length all) all (omega arith))),
+        ),
+      )
 
   pub has_pairs : HasPairs G start news (store.device_of new)
   has_pairs =

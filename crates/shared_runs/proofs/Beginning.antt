@@ -59,10 +59,12 @@ module _ {H D : Type 0} (G : Ghosts H D) (K : DeviceGhosts D) (old new : H) (dev
     start = λ told. omega (arith, begun.start, (images told).later);
     kept = λ told sound c left.
         let before = sound_back told sound in
-        let is = (taken told).frames before in
-        ([], left_read after told before (images told) c left
-        ∙ ap (λ (l : List Entry). Ok l) (sym (frames_is (G.content new) (G.coming old) is)
-        ∙ sym (append-nil (frames_of (G.content new)))));
+        let is = (taken told).frames before in (
+          [],
+          left_read after told before (images told) c left
+              ∙ ap (λ (l : List Entry). Ok l) (sym (frames_is (G.content new) (G.coming old) is)
+              ∙ sym (append-nil (frames_of (G.content new)))),
+        );
   }
 
   pub begins_turn : (lengths : Lengths) (s : Store D K) → IsOpened device lengths s

@@ -113,8 +113,13 @@ module _ {H D : Type 0} (G : Ghosts H D) (K : DeviceGhosts D) (old mid : Turns H
     ended = inl (ap is_some none);
     grows = grows;
     known = λ m is told. absurd (none_some mid.mark m none is);
-    free = λ told free. omega (arith, free, room, free_less (frames_of (G.content old.shared)) (G.coming old.shared)
-        (G.content old.shared) (G.content mid.shared) refl (starts told) (first told).file);
+    free = λ told free. omega (
+      arith,
+      free,
+      room,
+      free_less (frames_of (G.content old.shared)) (G.coming old.shared)
+          (G.content old.shared) (G.content mid.shared) refl (starts told) (first told).file,
+    );
   }
 
   -- one whose device was only read
@@ -150,9 +155,16 @@ module _ {H D : Type 0} (G : Ghosts H D) (K : DeviceGhosts D) (old mid : Turns H
         free = λ told free.
             let less = free_less (frames_of (G.content old.shared)) (G.coming old.shared)
             (G.content old.shared) (G.content new.shared) refl (starts told) (then told).file in
-            omega (arith, free, less, room, still, room_is s begins.whole told,
-            ap ends (begins.frames told (sound told)),
-            ap ends (frames_is (G.content new.shared) (G.coming old.shared) (read told)));
+            omega (
+              arith,
+              free,
+              less,
+              room,
+              still,
+              room_is s begins.whole told,
+              ap ends (begins.frames told (sound told)),
+              ap ends (frames_is (G.content new.shared) (G.coming old.shared) (read told)),
+            );
       }
 
 -- ---- what is answered

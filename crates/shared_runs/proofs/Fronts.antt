@@ -42,14 +42,18 @@ starts_take fs all (more, is) = ap (take (length fs)) is ∙ take_at fs more (le
 pub first_all : (least : ℕ) (all : List Entry) (c : List ℕ) → least ≤ length all → reading c ≡ Ok all
     → HoldsFirst least all c
 first_all least all c le is = (
-  length all, le, omega arith,
+  length all,
+  le,
+  omega arith,
   is ∙ ap (λ (l : List Entry). Ok l) (sym (take_all (length all) all (omega arith))),
 )
 
 module _ (file : List ℕ) (all : List Entry) (sound : IsSound file) (starts : StartWith (frames_of file) all) where
   pub first_none : (c : List ℕ) → reading c ≡ Ok (frames_of file) → HoldsFirst (length (frames_of file)) all c
   first_none c is = (
-    length (frames_of file), omega arith, starts_few (frames_of file) all starts,
+    length (frames_of file),
+    omega arith,
+    starts_few (frames_of file) all starts,
     is ∙ ap (λ (l : List Entry). Ok l) (sym (starts_take (frames_of file) all starts)),
   )
 
@@ -67,9 +71,10 @@ front_same fs all (more, is) n le = ap (take n) is ∙ take-append-le n fs more 
 -- what is longer begins with them
 pub front_long : (fs all : List Entry) → StartWith fs all → (n : ℕ) → length fs ≤ n → StartWith fs (take n all)
 front_long fs all (more, is) n le =
-    let at : n ≡ length fs + (n - length fs) = omega (arith, le) in
-    (take (n - length fs) more,
-    ap (take n) is ∙ ap (λ (k : ℕ). take k (fs ++ more)) at ∙ take-append-add fs more (n - length fs))
+    let at : n ≡ length fs + (n - length fs) = omega (arith, le) in (
+      take (n - length fs) more,
+      ap (take n) is ∙ ap (λ (k : ℕ). take k (fs ++ more)) at ∙ take-append-add fs more (n - length fs),
+    )
 
 pub holds_first : (fs all : List Entry) → StartWith fs all → (c : List ℕ) → HoldsFirst (length fs) all c → HoldsOn fs c
 holds_first fs all starts c (n, least, le, is) =

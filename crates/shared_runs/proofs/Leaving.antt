@@ -50,7 +50,9 @@ module _ {H D : Type 0} {G : Ghosts H D} {K : DeviceGhosts D} (old new : SharedS
   -- an image that the run left before it leaves still
   was_left : (c : List ℕ) → Was c → Left c
   was_left c (inl (n, least, le, is)) = inl (
-    n, least, omega (arith, le, starts_few (frames_in old) (frames_in new) starts),
+    n,
+    least,
+    omega (arith, le, starts_few (frames_in old) (frames_in new) starts),
     is ∙ ap (λ (l : List Entry). Ok l) (sym (short n le)),
   )
   was_left c (inr (not_whole, more)) = absurd (true_apart (is_some old.turns.mark) whole not_whole)
@@ -63,8 +65,17 @@ module _ {H D : Type 0} {G : Ghosts H D} {K : DeviceGhosts D} (old new : SharedS
     | inr few ↦
         let here : reading c ≡ Ok (take n (frames_in old)) =
         is ∙ ap (λ (l : List Entry). Ok l) (short n (omega (arith, few))) in
-        inl (c, (was, inl (inl (n, omega arith, omega (arith, few), here), same
-        ∙ ap (λ (l : List Pair). Some l) (kept n (omega (arith, few)) c here))))
+        inl (
+          c,
+          (
+            was,
+            inl (
+              inl (n, omega arith, omega (arith, few), here),
+              same
+                  ∙ ap (λ (l : List Pair). Some l) (kept n (omega (arith, few)) c here),
+            ),
+          ),
+        )
   ]
   before m o c was (inl (inr (not_whole, (in_last, more)), same)) =
       inr (subst Q (sym same) (in_turn c (subst (λ (t : ℕ). G.images_since new.turns.shared t c) began in_last)).1)

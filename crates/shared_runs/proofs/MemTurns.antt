@@ -148,8 +148,15 @@ module _ (old : List ℕ) (new : List ℕ) (pairs : List Pair) where
       let (more, now) = to (sound_is old es is) in
       let same : frames_of old ≡ es = frames_is old es is in
       let all = frames_of old ++ more in
-      omega (arith, ap ends (frames_with_is old es [] is), ap ends (append-nil es), ap ends same,
-      ends_append (frames_of old) more, ends_with all pairs, ap ends (frames_with_is new all pairs now))
+      omega (
+        arith,
+        ap ends (frames_with_is old es [] is),
+        ap ends (append-nil es),
+        ap ends same,
+        ends_append (frames_of old) more,
+        ends_with all pairs,
+        ap ends (frames_with_is new all pairs now),
+      )
   given_by (Err fault) is to =
       omega (arith, ap ends (frames_with_none old [] fault is), ends_none (frames_with new pairs))
 

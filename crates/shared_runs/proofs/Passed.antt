@@ -124,12 +124,20 @@ module _ {H D : Type 0} {G : Ghosts H D} {K : DeviceGhosts D} (old new : SharedS
                     let (x, same) = front_long (take k (coming_in old)) (coming_in old)
                     (drop k (coming_in old), sym (take-append-drop k (coming_in old))) n
                     (omega (arith, more, length-take k (coming_in old))) in
-                    inr (not_whole, (subst (λ (t : ℕ). G.images_since new.turns.shared t c) (sym began) left,
-                    (x, is ∙ ap (λ (l : List Entry). Ok l) (same ∙ ap (λ (l : List Entry). l ++ x) (sym now)))))
-                | inr short ↦ inl (n, omega arith,
-                    omega (arith, short, lt, ap length now, length-take k (coming_in old)),
-                    is ∙ ap (λ (l : List Entry). Ok l)
-                    (sym (take-take n k (coming_in old) (omega (arith, short))) ∙ ap (take n) (sym now)))
+                    inr (
+                      not_whole,
+                      (
+                        subst (λ (t : ℕ). G.images_since new.turns.shared t c) (sym began) left,
+                        (x, is ∙ ap (λ (l : List Entry). Ok l) (same ∙ ap (λ (l : List Entry). l ++ x) (sym now))),
+                      ),
+                    )
+                | inr short ↦ inl (
+                  n,
+                  omega arith,
+                  omega (arith, short, lt, ap length now, length-take k (coming_in old)),
+                  is ∙ ap (λ (l : List Entry). Ok l)
+                      (sym (take-take n k (coming_in old) (omega (arith, short))) ∙ ap (take n) (sym now)),
+                )
               ]
         ]
 
@@ -148,9 +156,11 @@ module _ {H D : Type 0} {G : Ghosts H D} {K : DeviceGhosts D} (old new : SharedS
       hits = hits_start old new starts;
       left = λ told. leaves_view old new (λ o. o ≡ Some (view_of old.seen (file_of old)))
           (HoldsFirst (length (frames_in old)) (coming_in old)) (ap is_some was) (starts told) (first told).goes began
-          (λ c left. (left_in_turn told c left,
-          ap (λ (l : List Pair). Some l) (view_of_more told c
-          (holds_first (frames_in old) (coming_in old) (stays told) c ((first told).goes.each c left)))))
+          (λ c left. (
+            left_in_turn told c left,
+            ap (λ (l : List Pair). Some l) (view_of_more told c
+                (holds_first (frames_in old) (coming_in old) (stays told) c ((first told).goes.each c left))),
+          ))
           (λ n le c is. ap (λ (l : List Pair). Some l) (view_of_more told c
           (let (more, same) = front_long (frames_in old) (frames_in new) (starts told) n le in
           (more, is ∙ ap (λ (l : List Entry). Ok l) same))))

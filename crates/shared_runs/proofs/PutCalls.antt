@@ -42,9 +42,12 @@ behind_same xs ys zs is = sym (drop_at xs ys (length xs) refl) ∙ ap (drop (len
 pub first_of_put : (least : ℕ) (coming : List Entry) (pairs : List Pair) (c : List ℕ) → least ≤ length coming
     → HoldsFirstOrPut least coming pairs c → HoldsFirst least (with_pairs coming pairs) c
 first_of_put least coming pairs c few (inl (n, le, lt, is)) =
-    let more = added (store_limit - ends coming) coming pairs in
-    (n, le, omega (arith, lt, length-append coming more),
-    is ∙ ap (λ (l : List Entry). Ok l) (sym (take-append-le n coming more lt)))
+    let more = added (store_limit - ends coming) coming pairs in (
+      n,
+      le,
+      omega (arith, lt, length-append coming more),
+      is ∙ ap (λ (l : List Entry). Ok l) (sym (take-append-le n coming more lt)),
+    )
 first_of_put least coming pairs c few (inr is) =
     first_all least (with_pairs coming pairs) c
     (omega (arith, few, length-append coming (added (store_limit - ends coming) coming pairs))) is
@@ -145,12 +148,20 @@ module _ {H D : Type 0} {G : Ghosts H D} {K : DeviceGhosts D} (old : SharedStore
               | inl more ↦
                   let (x, same) = front_long (take k all) all (drop k all, sym (take-append-drop k all)) n
                   (omega (arith, more, length-take k all)) in
-                  inr (not_whole, (subst (λ (t : ℕ). G.images_since turns.shared t c) (sym turn.began) left,
-                  (x, is ∙ ap (λ (l : List Entry). Ok l) (same ∙ ap (λ (l : List Entry). l ++ x) (sym now)))))
-              | inr short ↦ inl (n, omega arith,
-                  omega (arith, short, lt, ap length now, length-take k all),
-                  is ∙ ap (λ (l : List Entry). Ok l)
-                  (sym (take-take n k all (omega (arith, short))) ∙ ap (take n) (sym now)))
+                  inr (
+                    not_whole,
+                    (
+                      subst (λ (t : ℕ). G.images_since turns.shared t c) (sym turn.began) left,
+                      (x, is ∙ ap (λ (l : List Entry). Ok l) (same ∙ ap (λ (l : List Entry). l ++ x) (sym now))),
+                    ),
+                  )
+              | inr short ↦ inl (
+                n,
+                omega arith,
+                omega (arith, short, lt, ap length now, length-take k all),
+                is ∙ ap (λ (l : List Entry). Ok l)
+                    (sym (take-take n k all (omega (arith, short))) ∙ ap (take n) (sym now)),
+              )
             ]
       ]
 
@@ -199,11 +210,12 @@ module _ {H D : Type 0} {G : Ghosts H D} {K : DeviceGhosts D} (old : SharedStore
         (HoldsFirstOrPut least (coming_in old) news)) (sym shared) (turn.goes told))
         (subst (λ (t : Turns H). (G.turn t.shared).began ≡ G.moment old.turns.shared) (sym shared) turn.began)
         (λ c left.
-        let here = subst (λ (t : Turns H). G.images_since t.shared (G.moment old.turns.shared) c) shared left in
-        (subst (λ (t : Turns H). IsLeft (is_some t.mark) (G.images_since t.shared (G.turn t.shared).began) (G.content t.shared) c)
-        (sym shared) (left_put (is_some turns.mark) ended told c here),
-        none_put more (view_of new.seen c) (ap (λ s. view_of s c) seen
-        ∙ old_view told c (holds_first (frames_in old) all (all_start told) c (put_first told c ((turn.goes told).each c here))))))
+        let here = subst (λ (t : Turns H). G.images_since t.shared (G.moment old.turns.shared) c) shared left in (
+          subst (λ (t : Turns H). IsLeft (is_some t.mark) (G.images_since t.shared (G.turn t.shared).began) (G.content t.shared) c)
+              (sym shared) (left_put (is_some turns.mark) ended told c here),
+          none_put more (view_of new.seen c) (ap (λ s. view_of s c) seen
+              ∙ old_view told c (holds_first (frames_in old) all (all_start told) c (put_first told c ((turn.goes told).each c here)))),
+        ))
         (λ n le c is. none_put more (view_of new.seen c) (ap (λ s. view_of s c) seen
         ∙ old_view told c
         (let starts = subst (λ (t : Turns H). StartWith (frames_in old) (frames_of (G.content t.shared))) (sym shared) (put_starts told) in
@@ -256,12 +268,15 @@ module _ {H D : Type 0} {G : Ghosts H D} {K : DeviceGhosts D} (old : SharedStore
               let both : pairs_in coming ++ more ≡ pairs_in coming ++ (x ++ z) =
               sym pairs ∙ behind ∙ ap (λ (l : List Pair). l ++ z) front ∙ append_assoc (pairs_in coming) x z in
               let split : more ≡ x ++ z = behind_same (pairs_in coming) more (x ++ z) both in
-              let few : length x ≤ length more = omega (arith, ap length split, length-append x z) in
-              (length x, few, ap (λ (l : List Pair). Some l)
-              (ap (λ (l : List Entry). seen_pairs new.seen (pairs_in l)) here
-              ∙ ap (seen_pairs new.seen) front
-              ∙ view_put old.seen new.seen from (length more) first own (pairs_in coming) x (sym count) few
-              ∙ (λ i. old_coming i ++ sym (ap (take (length x)) split ∙ take_at x z (length x) refl) i)))
+              let few : length x ≤ length more = omega (arith, ap length split, length-append x z) in (
+                length x,
+                few,
+                ap (λ (l : List Pair). Some l)
+                    (ap (λ (l : List Entry). seen_pairs new.seen (pairs_in l)) here
+                    ∙ ap (seen_pairs new.seen) front
+                    ∙ view_put old.seen new.seen from (length more) first own (pairs_in coming) x (sym count) few
+                    ∙ (λ i. old_coming i ++ sym (ap (take (length x)) split ∙ take_at x z (length x) refl) i)),
+              )
         ]
 
     pub left_more : new.turns.mark ≡ turns.mark → new.turns.shared ≡ turns.shared → Leaves moment_of left_of old new (Q more)
@@ -274,9 +289,10 @@ module _ {H D : Type 0} {G : Ghosts H D} {K : DeviceGhosts D} (old : SharedStore
         (HoldsFirstOrPut least (coming_in old) news)) (sym same) (turn.goes told))
         (subst (λ (x : H). (G.turn x).began ≡ G.moment old.turns.shared) (sym same) turn.began)
         (λ c left.
-        let here = subst (λ (x : H). G.images_since x (G.moment old.turns.shared) c) same left in
-        (inl (front_all c now_all (put_first told c ((turn.goes told).each c here))),
-        part_put c (put_first told c ((turn.goes told).each c here))))
+        let here = subst (λ (x : H). G.images_since x (G.moment old.turns.shared) c) same left in (
+          inl (front_all c now_all (put_first told c ((turn.goes told).each c here))),
+          part_put c (put_first told c ((turn.goes told).each c here)),
+        ))
         (λ n le c is. part_put c (cut n le c (is ∙ ap (λ (l : List Entry). Ok (take n l)) now_all)))
         (λ n le c is. low_view n le c is)
       where

@@ -100,8 +100,10 @@ module _ {H D : Type 0} (G : Ghosts H D) (K : DeviceGhosts D) (old mid : H) (s n
         let all = frames_is (G.content mid) (G.coming old) (begins.read told (sound told)) in
         ⊎_elim
         (λ is. ([], is ∙ ap (λ (l : List Entry). Ok l) (sym (ap (λ (l : List Entry). l ++ []) all ∙ append-nil (G.coming old)))))
-        (λ is. (added (store_limit - ends (G.coming old)) (G.coming old) news,
-        is ∙ ap (λ (l : List Entry). Ok (l ++ added (store_limit - ends (G.coming old)) (G.coming old) news)) (sym all)))
+        (λ is. (
+          added (store_limit - ends (G.coming old)) (G.coming old) news,
+          is ∙ ap (λ (l : List Entry). Ok (l ++ added (store_limit - ends (G.coming old)) (G.coming old) news)) (sym all),
+        ))
         (left_put told c left);
   })
 
@@ -144,8 +146,12 @@ module _ {H D : Type 0} (G : Ghosts H D) (K : DeviceGhosts D) (old mid : H) (s n
         let all = added (store_limit - ends (G.coming old)) (G.coming old) news in
         ⊎_elim
         (λ read. omega (arith, less, ap ends (frames_is (G.content end) (G.coming old) (ap reading (given told) ∙ read))))
-        (λ read. omega (arith, less, ends_append (G.coming old) all,
-        ap ends (frames_is (G.content end) (with_pairs (G.coming old) news) (ap reading (given told) ∙ read))))
+        (λ read. omega (
+          arith,
+          less,
+          ends_append (G.coming old) all,
+          ap ends (frames_is (G.content end) (with_pairs (G.coming old) news) (ap reading (given told) ∙ read)),
+        ))
         (file_put told)
 
     pub puts_room : (told : K.tells) → free_in (G.content end) ≤ (store.state_of s).room
@@ -155,6 +161,11 @@ module _ {H D : Type 0} (G : Ghosts H D) (K : DeviceGhosts D) (old mid : H) (s n
         let frames = ap ends (begins.frames told (sound told)) in
         ⊎_elim
         (λ read. omega (arith, room, frames, ap ends (frames_is (G.content end) (G.coming old) (ap reading (given told) ∙ read))))
-        (λ read. omega (arith, room, frames, ends_append (G.coming old) all,
-        ap ends (frames_is (G.content end) (with_pairs (G.coming old) news) (ap reading (given told) ∙ read))))
+        (λ read. omega (
+          arith,
+          room,
+          frames,
+          ends_append (G.coming old) all,
+          ap ends (frames_is (G.content end) (with_pairs (G.coming old) news) (ap reading (given told) ∙ read)),
+        ))
         (file_put told)

@@ -38,9 +38,10 @@ text_there {G = G} s fs whole told (more, is) =
     let bytes = G.content (store.device_of s) in
     let kept = s.log.kept whole told in
     let es = store.frames_of s in
-    let tail = drop s.log.mark.end bytes in
-    (opened more ++ tail,
-    kept.rest.split ∙ sym (append_assoc magic (opened es) tail)
-    ∙ ap (λ (l : List Entry). text_of l ++ tail) is
-    ∙ ap (λ (l : List ℕ). l ++ tail) (text_of_append fs more)
-    ∙ append_assoc (text_of fs) (opened more) tail)
+    let tail = drop s.log.mark.end bytes in (
+      opened more ++ tail,
+      kept.rest.split ∙ sym (append_assoc magic (opened es) tail)
+          ∙ ap (λ (l : List Entry). text_of l ++ tail) is
+          ∙ ap (λ (l : List ℕ). l ++ tail) (text_of_append fs more)
+          ∙ append_assoc (text_of fs) (opened more) tail,
+    )

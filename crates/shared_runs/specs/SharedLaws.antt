@@ -27,8 +27,12 @@ rests {G = G} s only o told whole (c, (left, says)) =
     let same : c ≡ file_of s = marked.durable c (only c left) in
     let all = frames_of (file_of s) in
     let front : IsLeft (is_some s.turns.mark) (G.images_since s.turns.shared (G.turn s.turns.shared).began) (file_of s) (file_of s) =
-    inl (length all, omega arith, omega arith,
-    marked.sound ∙ ap (λ (l : List Entry). Ok l) (sym (take_all (length all) all (omega arith)))) in
+    inl (
+      length all,
+      omega arith,
+      omega arith,
+      marked.sound ∙ ap (λ (l : List Entry). Ok l) (sym (take_all (length all) all (omega arith))),
+    ) in
     elim says [
       | inl x ↦ x.1 ∙ ap (λ (b : List ℕ). Some (view_of s.seen b)) same
       | inr x ↦ absurd (x.0 (subst (λ (b : List ℕ). IsLeft (is_some s.turns.mark)

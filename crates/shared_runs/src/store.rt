@@ -55,13 +55,7 @@ impl<H: Shared> SharedStore<H> {
     }
 
     /// The cache of a run whose first turn ended, with what it told of the file.
-    fn begun(
-        alloc: Global,
-        shared: H,
-        mark: StoreMark,
-        first: u64,
-        room: u64,
-    ) -> SharedStore<H>
+    fn begun(alloc: Global, shared: H, mark: StoreMark, first: u64, room: u64) -> SharedStore<H>
         requires turn { (H.turn shared).held ≡ false }
         requires file { H.Device.tells
             → TellsFile mark first room (H.content shared) (H.images shared) }

@@ -21,9 +21,9 @@ ghost use Rattle.artifact_reader.specs.Parts.{shown, shown_in};
 ghost use Rattle.pair_reader.specs.Answers.{AllWithin, HitIsWithin};
 ghost use Rattle.pair_index.specs.Seen.{seen_pairs};
 
+use crate::Shared;
 use crate::passing::{begin, end_turn};
 use crate::reading::read_spans;
-use crate::Shared;
 use artifact_store::{Store, StoreMark};
 use cache_api::{Cache, CacheErr, Hit, Key, NewPair, Puts};
 use globs::OutSet;

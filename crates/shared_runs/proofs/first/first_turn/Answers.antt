@@ -42,14 +42,16 @@ returns-in-Ok-close-clause-turn g c told =
     let frames : store.frames_of s ≡ h.coming old = begins.frames told sound in
     let same = c.close.ensures.file told in
     let read : reading (h.content end) ≡ Ok (h.coming old) =
-    ap reading same ∙ (s.log.kept opened.whole told).read ∙ ap (λ (l : List Entry). Ok l) frames in
-    (record { sound = sound; read = read }, record {
-      sound = sound_is (h.content end) (h.coming old) read;
-      durable = c.in-Ok-close.ensures.durable told;
-      mark_is = c.in-Ok-close.ensures.mark told;
-      count = c.count-pairs.ensures.pairs told opened.whole ∙ ap (λ (b : List ℕ). length (pairs_at b)) (sym same);
-      free = c.free-room.ensures ∙ room_is s opened.whole told ∙ ap free_in (sym same);
-    })
+    ap reading same ∙ (s.log.kept opened.whole told).read ∙ ap (λ (l : List Entry). Ok l) frames in (
+      record { sound = sound; read = read },
+      record {
+        sound = sound_is (h.content end) (h.coming old) read;
+        durable = c.in-Ok-close.ensures.durable told;
+        mark_is = c.in-Ok-close.ensures.mark told;
+        count = c.count-pairs.ensures.pairs told opened.whole ∙ ap (λ (b : List ℕ). length (pairs_at b)) (sym same);
+        free = c.free-room.ensures ∙ room_is s opened.whole told ∙ ap free_in (sym same);
+      },
+    )
 
 pub returns-in-Ok-close-clause-time : goal.returns-in-Ok-close-clause-time
 returns-in-Ok-close-clause-time g c told =
@@ -90,4 +92,3 @@ returns-in-Err-end_turn-clause-time g c told =
     (c.in-Err-open.ensures.unopened.images told) (c.end_turn.ensures.time told)
     (λ m n b le lt left. g.met.H.Shared.earlier c.end_turn.new.shared m n b le lt left)
     (λ b now. g.met.H.Shared.counts_now new (g.H.Shared.moment c.args.shared.now) b (c.take.ensures.time told).later now)
-

@@ -78,4 +78,3 @@ returns-in-Err-end_turn-clause-file g c told =
     (laws.counts_now after (k.moment c.in-Ok.device) (k.content after) (un.images told).later (laws.as_it_reads after told))
     (c.end_turn.ensures.file told) (c.end_turn.ensures.time told)
     (λ m n b le lt left. g.met.H.Shared.earlier c.end_turn.new.shared m n b le lt left)
-

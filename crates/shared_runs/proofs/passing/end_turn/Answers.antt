@@ -52,4 +52,3 @@ returns-in-Err-clause-time g c told =
     (λ b. ⊎_elim (λ was. inl was) (λ left. inr
     (reads_since k.content k.images k.moment k.images_since device synced start (c.requires.start told)
     (λ x now. g.met.H.Device.StoreDevice.counts_now device start x (c.requires.start told) now) c.sync-synced.ensures.reads b left)))
-

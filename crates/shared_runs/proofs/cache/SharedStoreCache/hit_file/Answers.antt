@@ -23,7 +23,6 @@ use Rattle.shared_runs.proofs.Ending.{some_of}
 use Rattle.shared_runs.proofs.Formed.{read_formed}
 use Rattle.shared_runs.proofs.MemTurns.{frames_is}
 use Rattle.shared_runs.proofs.Passed.{reads_view}
-
 use Rattle.shared_runs.proofs.cache.SharedStoreCache.hit_file.Goals as goal
 
 pub invariant_of-self : goal.invariant_of-self

@@ -219,9 +219,16 @@ invariant_of-self-2 g c =
     let few : g.H.Device.StoreDevice.tells → next ≤ length (pairs_at (g.H.Shared.content new.shared)) =
     λ told.
     let done = c.in_ok-puts.ensures.done told in
-    omega (arith, c.in_ok-own.ensures.next, from_is told, count, many,
-    ap (λ (l : List Entry). length (pairs_in l)) (frames_is (g.H.Shared.content new.shared) (with_pairs (coming_in old) news) done.frames),
-    ap length done.pairs_are, length-append (pairs_in (coming_in old)) (chosen news puts)) in
+    omega (
+      arith,
+      c.in_ok-own.ensures.next,
+      from_is told,
+      count,
+      many,
+      ap (λ (l : List Entry). length (pairs_in l)) (frames_is (g.H.Shared.content new.shared) (with_pairs (coming_in old) news) done.frames),
+      ap length done.pairs_are,
+      length-append (pairs_in (coming_in old)) (chosen news puts),
+    ) in
     record {
       idle = turn.held;
       below = below;
@@ -262,9 +269,16 @@ returns-clause-pairs g c told =
     let few : g.H.Device.StoreDevice.tells → next ≤ length (pairs_at (g.H.Shared.content new.shared)) =
     λ told.
     let done = c.in_ok-puts.ensures.done told in
-    omega (arith, c.in_ok-own.ensures.next, from_is told, count, many,
-    ap (λ (l : List Entry). length (pairs_in l)) (frames_is (g.H.Shared.content new.shared) (with_pairs (coming_in old) news) done.frames),
-    ap length done.pairs_are, length-append (pairs_in (coming_in old)) (chosen news puts)) in
+    omega (
+      arith,
+      c.in_ok-own.ensures.next,
+      from_is told,
+      count,
+      many,
+      ap (λ (l : List Entry). length (pairs_in l)) (frames_is (g.H.Shared.content new.shared) (with_pairs (coming_in old) news) done.frames),
+      ap length done.pairs_are,
+      length-append (pairs_in (coming_in old)) (chosen news puts),
+    ) in
     let done = c.in_ok-puts.ensures.done told in
     let more = chosen news puts in
     let store = own_store old new news m was stays turn seen next refl below few in
@@ -295,9 +309,16 @@ returns-clause-left g c told =
     let few : g.H.Device.StoreDevice.tells → next ≤ length (pairs_at (g.H.Shared.content new.shared)) =
     λ told.
     let done = c.in_ok-puts.ensures.done told in
-    omega (arith, c.in_ok-own.ensures.next, from_is told, count, many,
-    ap (λ (l : List Entry). length (pairs_in l)) (frames_is (g.H.Shared.content new.shared) (with_pairs (coming_in old) news) done.frames),
-    ap length done.pairs_are, length-append (pairs_in (coming_in old)) (chosen news puts)) in
+    omega (
+      arith,
+      c.in_ok-own.ensures.next,
+      from_is told,
+      count,
+      many,
+      ap (λ (l : List Entry). length (pairs_in l)) (frames_is (g.H.Shared.content new.shared) (with_pairs (coming_in old) news) done.frames),
+      ap length done.pairs_are,
+      length-append (pairs_in (coming_in old)) (chosen news puts),
+    ) in
     let done = c.in_ok-puts.ensures.done told in
     let more = chosen news puts in
     let store = own_store old new news m was stays turn seen next refl below few in
@@ -338,8 +359,15 @@ returns-clause-keeps g c =
     let few : g.H.Device.StoreDevice.tells → next ≤ length (pairs_at (g.H.Shared.content new.shared)) =
     λ told.
     let done = c.in_ok-puts.ensures.done told in
-    omega (arith, c.in_ok-own.ensures.next, from_is told, count, many,
-    ap (λ (l : List Entry). length (pairs_in l)) (frames_is (g.H.Shared.content new.shared) (with_pairs (coming_in old) news) done.frames),
-    ap length done.pairs_are, length-append (pairs_in (coming_in old)) (chosen news puts)) in
+    omega (
+      arith,
+      c.in_ok-own.ensures.next,
+      from_is told,
+      count,
+      many,
+      ap (λ (l : List Entry). length (pairs_in l)) (frames_is (g.H.Shared.content new.shared) (with_pairs (coming_in old) news) done.frames),
+      ap length done.pairs_are,
+      length-append (pairs_in (coming_in old)) (chosen news puts),
+    ) in
     let store = own_store old new news m was stays turn seen next refl below few in
     keeps_start old store refl (put_starts old new news m was stays turn) c.put.ensures.room turn.grows

@@ -30,9 +30,12 @@ returns-then-next_fails-clause-grows c =
     let none : pairs_coming m ≡ [] = ap (λ (b : Bool). cond b [] pairs) c.requires.held in
     let kept : (sound : IsSound (bytes_of m)) → HoldsOn (frames_of (bytes_of m)) (device.bytes_of d) =
     λ sound. c.requires.kept tt sound (device.bytes_of d) (left_as d) in
-    omega (arith, grows_given (bytes_of m) (device.bytes_of d) pairs kept,
-    ap (λ (l : List Pair). ends (frames_with (bytes_of m) l)) none,
-    ap (λ (f : MemStore). ends (frames_with (device.bytes_of f) pairs)) c.replace-before.ensures.after)
+    omega (
+      arith,
+      grows_given (bytes_of m) (device.bytes_of d) pairs kept,
+      ap (λ (l : List Pair). ends (frames_with (bytes_of m) l)) none,
+      ap (λ (f : MemStore). ends (frames_with (device.bytes_of f) pairs)) c.replace-before.ensures.after,
+    )
 
 pub returns-clause-grows : goal.returns-clause-grows
 returns-clause-grows c =
@@ -42,9 +45,12 @@ returns-clause-grows c =
     let none : pairs_coming m ≡ [] = ap (λ (b : Bool). cond b [] pairs) c.requires.held in
     let kept : (sound : IsSound (bytes_of m)) → HoldsOn (frames_of (bytes_of m)) (device.bytes_of d) =
     λ sound. c.requires.kept tt sound (device.bytes_of d) (left_as d) in
-    omega (arith, grows_given (bytes_of m) (device.bytes_of d) pairs kept,
-    ap (λ (l : List Pair). ends (frames_with (bytes_of m) l)) none,
-    ap (λ (f : MemStore). ends (frames_with (device.bytes_of f) pairs)) c.replace-before.ensures.after)
+    omega (
+      arith,
+      grows_given (bytes_of m) (device.bytes_of d) pairs kept,
+      ap (λ (l : List Pair). ends (frames_with (bytes_of m) l)) none,
+      ap (λ (f : MemStore). ends (frames_with (device.bytes_of f) pairs)) c.replace-before.ensures.after,
+    )
 
 pub returns-then-next_fails-clause-cause : goal.returns-then-next_fails-clause-cause
 returns-then-next_fails-clause-cause c =

@@ -93,9 +93,12 @@ returns-clause-grows c =
     (c.puts_at-puts.ensures ∙ ap (λ (l : List (List OtherPut)). get_or l m.turns []) c.deref-2.ensures.value)
     ∙ sym (ap (λ (b : Bool). frames_with before (cond b [] (puts_at m (next_turn m)))) c.requires) in
     let file = c.in-Ok.both.0 in
-    omega (arith, grows_taken before (pairs_of came) (device.bytes_of file) c.in-Ok.ensures.file.taken.frames,
-    ap ends coming,
-    ap (λ (f : MemStore). ends (frames_with (device.bytes_of f) [])) c.replace-before.ensures.after)
+    omega (
+      arith,
+      grows_taken before (pairs_of came) (device.bytes_of file) c.in-Ok.ensures.file.taken.frames,
+      ap ends coming,
+      ap (λ (f : MemStore). ends (frames_with (device.bytes_of f) [])) c.replace-before.ensures.after,
+    )
 
 pub returns-clause-cause : goal.returns-clause-cause
 returns-clause-cause c =

@@ -131,8 +131,18 @@ returns-clause-turn g c =
           let was = ok_was c.put_all-answer.result c.close_turn.result c.in_ok-puts.puts end.answer c.in_ok-puts.was in
           let whole = subst (λ b. IsTrue b)
           (sym (ok_whole c.put_all-answer.result c.in_ok-puts.puts s.log.whole n.log.whole was put.whole)) opens.turn.whole in
-          omega (arith, free, less, room, end.room, opens.free, c.min-self.ensures, c.free-free.ensures, room_is n whole told,
-          ap free_in (given told));
+          omega (
+            arith,
+            free,
+            less,
+            room,
+            end.room,
+            opens.free,
+            c.min-self.ensures,
+            c.free-free.ensures,
+            room_is n whole told,
+            ap free_in (given told),
+          );
     }
 
 pub returns-clause-done : goal.returns-clause-done
