@@ -1,5 +1,5 @@
 -- A store that was opened in a device, and into which pairs were put.
-use Rattle.std.proofs.Common.{◌≡◌, inl, inr, ℕ, ◌+◌, ◌-◌, ◌≤◌, List, ◌++◌, length, take, Ok, refl, sym, ◌∙◌, ap, subst, arith, length-append}
+use Rattle.std.proofs.Common.{◌≡◌, inl, inr, ℕ, ◌-◌, ◌≤◌, List, ◌++◌, length, Ok, refl, sym, ◌∙◌, ap, arith, length-append}
 use Rattle.std.specs.Prelude.{IsTrue}
 use Rattle.std.proofs.lemmas.List.{take_all}
 use Rattle.rel_path.specs.Limits.{store_limit}
@@ -8,7 +8,7 @@ use Rattle.store_dev.specs.Moments.{leaves_then}
 use Rattle.store_dev.specs.declared.device.StoreDevice.{Ghosts}
 use Rattle.cache_api.specs.Pairs.{Pair}
 use Rattle.record_log.specs.Kinds.{Entry}
-use Rattle.record_log.specs.Frames.{reading, frames_of, ends, IsSound, ReadsAsOneOf}
+use Rattle.record_log.specs.Frames.{reading, frames_of, ends, ReadsAsOneOf}
 use Rattle.record_log.specs.Batch.{IsBeforeOrAll}
 use Rattle.pair_frames.specs.Puts.{added}
 use Rattle.pair_reader.specs.declared.wanted.Lengths.{Lengths}
@@ -18,7 +18,7 @@ use Rattle.artifact_store.specs.Store as store
 use Rattle.shared_runs.specs.Appended.{HasPairs}
 use Rattle.shared_runs.specs.Frames.{HoldsOneOrMore}
 use Rattle.shared_runs.specs.MemLaws.{frames_with_is}
-use Rattle.shared_runs.specs.Others.{with_pairs, frames_with}
+use Rattle.shared_runs.specs.Others.{frames_with}
 use Rattle.shared_runs.proofs.MemTurns.{frames_is, sound_is}
 
 -- the room of a store that is whole is what its frames leave

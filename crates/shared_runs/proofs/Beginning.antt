@@ -1,5 +1,5 @@
 -- The store with which a turn begins.
-use Rattle.std.proofs.Common.{◌≡◌, ◌⊎◌, inl, inr, ⊎_elim, ℕ, ◌≤◌, List, [], ◌++◌, length, take, Result, Ok, refl, sym, ◌∙◌, ap, subst, arith}
+use Rattle.std.proofs.Common.{◌≡◌, inl, inr, ⊎_elim, ℕ, ◌≤◌, List, [], length, take, Result, Ok, sym, ◌∙◌, ap, subst, arith}
 use Rattle.std.proofs.lemmas.List.{append-nil}
 use Rattle.std.specs.Prelude.{true}
 use Rattle.store_dev.specs.Device.{Only, LeavesOnly}
@@ -14,7 +14,7 @@ use Rattle.artifact_store.specs.Answers.{IsFaultOf}
 use Rattle.artifact_store.specs.Opened.{IsOpened}
 use Rattle.artifact_store.specs.Store as store
 use Rattle.shared_runs.specs.declared.turn.Shared.{Ghosts}
-use Rattle.shared_runs.specs.Frames.{StartWith, HoldsOn, HoldsFirst, HoldsOneOrMore}
+use Rattle.shared_runs.specs.Frames.{StartWith, HoldsFirst, HoldsOneOrMore}
 use Rattle.shared_runs.specs.Passing.{IsInTurn, BeginsTurn, LeavesFirst}
 use Rattle.shared_runs.specs.Turns.{IsTurnOf, HoldsFile, IsTaken, GoesOn, LeftInTurn}
 use Rattle.shared_runs.proofs.Fronts.{first_all, first_or_more, starts_few}

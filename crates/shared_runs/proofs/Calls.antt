@@ -1,29 +1,26 @@
 -- What the calls of a run leave of its cache.
-use Rattle.std.proofs.Common.{◌≡◌, ◌⊎◌, inl, inr, ⊎_elim, ℕ, ◌+◌, ◌≤◌, Bool, true, false, List, [], ◌++◌, length, take, Option, Some, None, Result, Ok, Err, refl, sym, ◌∙◌, ap, subst, arith, length-append}
+use Rattle.std.proofs.Common.{◌≡◌, ⊎_elim, ℕ, ◌+◌, ◌≤◌, true, List, [], length, take, Option, Some, None, Result, Ok, Err, ◌∙◌, ap, subst, arith, length-append}
 use Rattle.std.specs.Prelude.{is_some, IfOk, IfSome, OnOk}
 use Rattle.store_dev.specs.declared.device.StoreDevice.{Ghosts as DeviceGhosts}
 use Rattle.cache_api.specs.declared.error.CacheErr.{CacheErr}
 use Rattle.cache_api.specs.Cache.{StaysWhole}
-use Rattle.cache_api.specs.Pairs.{Pair}
 use Rattle.record_log.specs.Kinds.{Entry}
 use Rattle.record_log.specs.Frames.{reading, frames_of, all_formed}
 use Rattle.pair_frames.specs.Pairs.{pairs_in}
-use Rattle.pair_index.specs.declared.seen.SeenPairs.{SeenPairs}
 use Rattle.pair_index.specs.Seen.{seen_pairs}
 use Rattle.artifact_store.specs.declared.mark.StoreMark.{StoreMark}
 use Rattle.shared_runs.specs.declared.store.SharedStore.{SharedStore}
 use Rattle.shared_runs.specs.declared.turn.Shared.{Ghosts}
 use Rattle.shared_runs.specs.declared.turns.Turns.{Turns}
 use Rattle.shared_runs.specs.Costs.{most_cost}
-use Rattle.shared_runs.specs.Frames.{StartWith, HoldsFirst}
+use Rattle.shared_runs.specs.Frames.{StartWith}
 use Rattle.shared_runs.specs.Marked.{IsKept}
 use Rattle.shared_runs.specs.Passes.{PassesTurn}
-use Rattle.shared_runs.specs.Shared.{file_of, frames_in, coming_in, state_of, cost_of}
+use Rattle.shared_runs.specs.Shared.{file_of, frames_in, coming_in, cost_of}
 use Rattle.shared_runs.specs.Views.{pairs_at, view_of, Sees}
-use Rattle.shared_runs.proofs.Formed.{read_formed}
 use Rattle.shared_runs.proofs.Fronts.{holds_first, holds_starts}
 use Rattle.shared_runs.proofs.Leaving.{true_apart}
-use Rattle.shared_runs.proofs.MemTurns.{frames_is, sound_is}
+use Rattle.shared_runs.proofs.MemTurns.{sound_is}
 use Rattle.shared_runs.proofs.Passed.{pairs_start, sees_below}
 use Rattle.shared_runs.proofs.Seeing.{seen_front, cost_front}
 

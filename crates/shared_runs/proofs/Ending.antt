@@ -1,5 +1,5 @@
 -- The end of a turn.
-use Rattle.std.proofs.Common.{◌≡◌, inl, inr, ⊎_elim, ℕ, ◌+◌, ◌-◌, ◌≤◌, Bool, true, false, List, ◌++◌, length, min, Option, Some, None, Result, Ok, Err, refl, sym, ◌∙◌, ap, subst, arith}
+use Rattle.std.proofs.Common.{◌≡◌, inl, inr, ⊎_elim, ℕ, ◌+◌, ◌-◌, ◌≤◌, false, List, ◌++◌, length, min, Option, Some, None, Result, Ok, refl, sym, ◌∙◌, ap, subst, arith}
 use Rattle.std.specs.Prelude.{is_some, IsTrue, IfOk}
 use Rattle.store_dev.specs.Device.{OnlyReads}
 use Rattle.store_dev.specs.declared.device.StoreDevice.{Ghosts as DeviceGhosts}
@@ -23,8 +23,7 @@ use Rattle.shared_runs.proofs.MemTurns.{frames_is}
 use Rattle.shared_runs.proofs.Turning.{goes_then, reads_since}
 use Rattle.rel_path.specs.Causes.{Counts}
 use Rattle.cache_api.specs.declared.error.CacheErr.{CacheErr}
-use Rattle.cache_api.specs.declared.error.CacheErr.TheVariants.{Full, Failed, OutOfMemory}
-use Rattle.cache_api.specs.Cache.{StaysWhole, is_fault}
+use Rattle.cache_api.specs.Cache.{is_fault}
 use Rattle.shared_runs.specs.Errors.{OrFailed}
 
 -- a call that did not fail leaves the counts

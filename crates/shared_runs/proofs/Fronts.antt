@@ -1,17 +1,17 @@
 -- Frames at the front of others.
-use Rattle.std.proofs.Common.{◌≡◌, ◌⊎◌, inl, inr, ⊎_elim, ℕ, ◌+◌, ◌-◌, ◌≤◌, List, [], ◌++◌, length, take, Ok, refl, sym, ◌∙◌, ap, subst, arith, length-append, append_assoc}
-use Rattle.std.proofs.lemmas.List.{append-nil, take_at, take_all, take-append-le}
+use Rattle.std.proofs.Common.{◌≡◌, inl, inr, ℕ, ◌+◌, ◌-◌, ◌≤◌, List, ◌++◌, length, take, Ok, refl, sym, ◌∙◌, ap, subst, arith, length-append, append_assoc}
+use Rattle.std.proofs.lemmas.List.{take_at, take_all, take-append-le}
 use Rattle.std.proofs.Math.Seq.{take-append-add}
 use Rattle.store_dev.specs.Device.{Only}
 use Rattle.record_log.specs.Kinds.{Entry}
-use Rattle.record_log.specs.Frames.{reading, frames_of, IsSound, ReadsAsOneOf}
+use Rattle.record_log.specs.Frames.{reading, frames_of, IsSound}
 use Rattle.artifact_store.specs.declared.mark.StoreMark.{StoreMark}
 use Rattle.artifact_store.specs.Marks.{IsMarkOf, marked}
 use Rattle.blob_pool.specs.Known.{IsPoolOf}
 use Rattle.pair_index.specs.Index.{IsIndexOf}
 use Rattle.record_log.specs.Kept as log
 use Rattle.shared_runs.specs.Frames.{StartWith, HoldsOn, HoldsFirst, HoldsOneOrMore}
-use Rattle.shared_runs.proofs.MemTurns.{frames_is, sound_is}
+use Rattle.shared_runs.proofs.MemTurns.{frames_is}
 
 -- what is known of frames is known of them with more behind
 pub mark_more : (mark : StoreMark) (fs more : List Entry) → IsMarkOf mark fs → IsMarkOf mark (fs ++ more)

@@ -1,19 +1,18 @@
 -- What the images of a file say, over a turn of a run.
-use Rattle.std.proofs.Common.{◌≡◌, ◌⊎◌, inl, inr, ⊎_elim, ℕ, ◌<◌, ◌≤◌, ◌-◌, Bool, true, false, List, ◌++◌, length, take, Option, Some, None, Ok, refl, sym, ◌∙◌, ap, subst, arith, length-append}
+use Rattle.std.proofs.Common.{◌≡◌, ◌⊎◌, inl, inr, ⊎_elim, ℕ, ◌≤◌, Bool, true, false, List, length, take, Option, Some, Ok, sym, ◌∙◌, ap, subst, arith}
 use Rattle.std.specs.Prelude.{is_some}
 use Rattle.std.proofs.lemmas.Bool.{cases_lt}
-use Rattle.std.proofs.lemmas.List.{take_all, take-append-le}
 use Rattle.store_dev.specs.declared.device.StoreDevice.{Ghosts as DeviceGhosts}
 use Rattle.cache_api.specs.Moments.{Moment, Leaves}
 use Rattle.cache_api.specs.Pairs.{Pair}
 use Rattle.record_log.specs.Kinds.{Entry}
-use Rattle.record_log.specs.Frames.{reading, frames_of}
+use Rattle.record_log.specs.Frames.{reading}
 use Rattle.shared_runs.specs.declared.store.SharedStore.{SharedStore}
 use Rattle.shared_runs.specs.declared.turn.Shared.{Ghosts}
-use Rattle.shared_runs.specs.Frames.{StartWith, HoldsOn, HoldsFirst}
+use Rattle.shared_runs.specs.Frames.{StartWith}
 use Rattle.shared_runs.specs.Shared.{file_of, frames_in, moment_of, left_of}
 use Rattle.shared_runs.specs.Turns.{GoesOn}
-use Rattle.shared_runs.specs.Views.{view_of, IsFrontOf, IsLeft, Says}
+use Rattle.shared_runs.specs.Views.{view_of, IsLeft, Says}
 use Rattle.shared_runs.proofs.Fronts.{starts_few, front_same}
 
 pub true_apart : (b : Bool) → b ≡ true → b ≡ false → ⊥

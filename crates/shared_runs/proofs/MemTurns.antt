@@ -1,6 +1,5 @@
 -- Turns of a shared file in memory.
-use Rattle.std.proofs.Common.{◌≡◌, ◌⊎◌, inl, inr, ⊎_elim, ℕ, ◌+◌, ◌-◌, ◌^◌, ◌≤◌, Bool, true, false, List, [], ◌∷◌, ◌++◌, length, min, Result, Ok, Err, refl, sym, ◌∙◌, ap, subst, arith, length-append}
-use Rattle.std.specs.Prelude.{MatchBool}
+use Rattle.std.proofs.Common.{◌≡◌, inl, inr, ⊎_elim, ℕ, ◌+◌, ◌-◌, ◌≤◌, List, [], ◌∷◌, ◌++◌, length, Result, Ok, Err, refl, sym, ◌∙◌, ap, subst, arith, length-append}
 use Rattle.std.proofs.lemmas.List.{append-nil}
 use Rattle.rel_path.specs.Causes.{Counts, Rose}
 use Rattle.rel_path.specs.Limits.{store_limit}
@@ -11,20 +10,19 @@ use Rattle.store_dev.specs.Memory.{origin, ImagesFrom}
 use Rattle.store_dev.specs.Record.{counts, reads_as_one}
 use Rattle.cache_api.specs.Pairs.{Pair}
 use Rattle.record_log.specs.Kinds.{Entry}
-use Rattle.record_log.specs.Frames.{reading, frames_of, ends, opened, IsSound, Fault, ReadsAsOneOf}
+use Rattle.record_log.specs.Frames.{reading, frames_of, ends, IsSound, Fault}
 use Rattle.record_log.specs.Texts.{ends_append}
 use Rattle.pair_frames.specs.Puts.{added}
 use Rattle.shared_runs.specs.declared.memory.MemShared.{MemShared}
-use Rattle.shared_runs.specs.declared.turn.TurnErr.{TurnErr}
 use Rattle.shared_runs.specs.declared.turn.TurnErr.TheVariants.{Failed}
 use Rattle.shared_runs.specs.Appended.{IsFresh}
-use Rattle.shared_runs.specs.Frames.{HoldsOn, HoldsFirst, HoldsOneOrMore}
+use Rattle.shared_runs.specs.Frames.{HoldsOn, HoldsOneOrMore}
 use Rattle.shared_runs.specs.History.{LeftSince, faults_among}
 use Rattle.shared_runs.specs.HistoryLaws.{left_last, left_split, left_more, left_kept}
-use Rattle.shared_runs.specs.MemShared.{bytes_of, images_of, images_since_of, moment_of, devices_of, faults_of}
+use Rattle.shared_runs.specs.MemShared.{images_of, images_since_of, moment_of, devices_of, faults_of}
 use Rattle.shared_runs.specs.MemLaws.{frames_with_is}
 use Rattle.shared_runs.specs.Others.{with_pairs, frames_with}
-use Rattle.shared_runs.specs.Turns.{GoesOn, LeftInTurn, is_fault}
+use Rattle.shared_runs.specs.Turns.{GoesOn, is_fault}
 
 -- ---- the file's time
 

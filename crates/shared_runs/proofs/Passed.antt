@@ -1,20 +1,15 @@
 -- A turn of a run that puts nothing.
-use Rattle.std.proofs.Common.{◌≡◌, ◌⊎◌, inl, inr, ⊎_elim, ℕ, ◌+◌, ◌<◌, ◌≤◌, ◌-◌, Bool, true, false, List, [], ◌++◌, length, take, drop, min, Option, Some, None, Ok, refl, sym, ◌∙◌, ap, subst, arith, length-append, length-take, take-append-drop}
+use Rattle.std.proofs.Common.{◌≡◌, ◌⊎◌, inl, inr, ℕ, ◌<◌, ◌≤◌, true, false, List, [], ◌++◌, length, take, drop, Some, Ok, refl, sym, ◌∙◌, ap, subst, arith, length-take, take-append-drop}
 use Rattle.std.specs.Prelude.{is_some}
-use Rattle.std.specs.List.{All}
 use Rattle.std.proofs.lemmas.Bool.{cases_lt}
 use Rattle.std.proofs.lemmas.List.{take-take, take-append-le}
 use Rattle.std.proofs.lemmas.List.Elements.{All-weaker}
-use Rattle.store_dev.specs.Device.{Only}
 use Rattle.store_dev.specs.declared.device.StoreDevice.{Ghosts as DeviceGhosts}
 use Rattle.cache_api.specs.Cache.{CacheReads, Keeps, HitsStay}
-use Rattle.cache_api.specs.Hits as api
-use Rattle.cache_api.specs.declared.hit.Hit.{Hit}
-use Rattle.cache_api.specs.Moments.{Leaves}
 use Rattle.cache_api.specs.Pairs.{Pair}
 use Rattle.record_log.specs.Kinds.{Entry}
-use Rattle.record_log.specs.Frames.{reading, frames_of, ends, opened, text_of, IsSound, all_formed}
-use Rattle.record_log.specs.Texts.{text_of_append, ends_append}
+use Rattle.record_log.specs.Frames.{reading, frames_of, ends, opened, text_of, all_formed}
+use Rattle.record_log.specs.Texts.{text_of_append}
 use Rattle.blob_pool.specs.Contents.{contents_of}
 use Rattle.pair_frames.specs.Pairs.{pairs_in, pairs_from}
 use Rattle.pair_frames.specs.Joins.{pairs_in-append}
@@ -32,9 +27,9 @@ use Rattle.shared_runs.specs.Passing.{LeavesFirst}
 use Rattle.shared_runs.specs.Shared.{file_of, frames_in, coming_in, state_of, moment_of, left_of, stands, shows, cost_of}
 use Rattle.shared_runs.specs.Views.{pairs_at, view_of, IsLeft}
 use Rattle.shared_runs.proofs.Formed.{read_formed}
-use Rattle.shared_runs.proofs.Fronts.{starts_few, front_long, holds_first, holds_starts}
+use Rattle.shared_runs.proofs.Fronts.{front_long, holds_first, holds_starts}
 use Rattle.shared_runs.proofs.Leaving.{leaves_view}
-use Rattle.shared_runs.proofs.MemTurns.{frames_is, sound_is}
+use Rattle.shared_runs.proofs.MemTurns.{frames_is}
 use Rattle.shared_runs.proofs.Seeing.{SeesBelow, seen_front, cost_front}
 
 -- pairs stay as frames come behind theirs

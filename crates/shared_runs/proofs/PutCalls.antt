@@ -1,5 +1,5 @@
 -- A call of a run that puts pairs.
-use Rattle.std.proofs.Common.{◌≡◌, ◌⊎◌, inl, inr, ⊎_elim, ℕ, ◌+◌, ◌-◌, ◌<◌, ◌≤◌, Bool, true, false, List, [], ◌∷◌, ◌++◌, length, take, drop, min, Option, Some, None, Ok, refl, sym, ◌∙◌, ap, subst, arith, append_assoc, length-append, length-take, take-append-drop}
+use Rattle.std.proofs.Common.{◌≡◌, ◌⊎◌, inl, inr, ℕ, ◌-◌, ◌<◌, ◌≤◌, Bool, false, List, ◌++◌, length, take, drop, Option, Some, Ok, refl, sym, ◌∙◌, ap, subst, arith, append_assoc, length-append, length-take, take-append-drop}
 use Rattle.std.specs.Prelude.{is_some}
 use Rattle.std.proofs.lemmas.Bool.{cases_lt}
 use Rattle.std.proofs.lemmas.List.{append-nil, drop_at, take_all, take_at, take-take, take-append-le}
@@ -7,8 +7,7 @@ use Rattle.rel_path.specs.Limits.{store_limit}
 use Rattle.store_dev.specs.declared.device.StoreDevice.{Ghosts as DeviceGhosts}
 use Rattle.cache_api.specs.Cache.{Keeps, HitsStay}
 use Rattle.cache_api.specs.Moments.{Leaves}
-use Rattle.cache_api.specs.Pairs.{Pair, chosen, IsFirstPart}
-use Rattle.cache_api.specs.declared.puts.Put.{Put}
+use Rattle.cache_api.specs.Pairs.{Pair, IsFirstPart}
 use Rattle.record_log.specs.Kinds.{Entry}
 use Rattle.record_log.specs.Frames.{reading, frames_of, ends}
 use Rattle.pair_frames.specs.Pairs.{pairs_in}
@@ -25,10 +24,10 @@ use Rattle.shared_runs.specs.Marked.{IsKept}
 use Rattle.shared_runs.specs.Others.{with_pairs}
 use Rattle.shared_runs.specs.Own.{numbers_on}
 use Rattle.shared_runs.specs.Passes.{PutsTurn, HoldsFirstOrPut}
-use Rattle.shared_runs.specs.Shared.{file_of, frames_in, coming_in, state_of, moment_of, left_of, stands, shows, stores}
+use Rattle.shared_runs.specs.Shared.{file_of, frames_in, coming_in, state_of, moment_of, left_of, stands, shows}
 use Rattle.shared_runs.specs.Turns.{GoesOn}
 use Rattle.shared_runs.specs.Views.{pairs_at, view_of, IsLeft, Sees}
-use Rattle.shared_runs.proofs.Fronts.{starts_few, starts_then, front_long, front_same, holds_first, holds_starts, first_all}
+use Rattle.shared_runs.proofs.Fronts.{starts_few, starts_then, front_long, holds_first, holds_starts, first_all}
 use Rattle.shared_runs.proofs.Leaving.{leaves_view}
 use Rattle.shared_runs.proofs.MemTurns.{frames_is, sound_is}
 use Rattle.shared_runs.proofs.Owning.{view_low, view_put}

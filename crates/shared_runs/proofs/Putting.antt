@@ -1,6 +1,6 @@
 -- A turn in which pairs are put.
-use Rattle.std.proofs.Common.{◌≡◌, ◌⊎◌, inl, inr, ⊎_elim, ℕ, ◌+◌, ◌-◌, ◌≤◌, Bool, List, [], ◌++◌, length, min, Result, Ok, Err, refl, sym, ◌∙◌, ap, subst, arith, length-append}
-use Rattle.std.specs.Prelude.{false, IsTrue, IfOk, OnOk}
+use Rattle.std.proofs.Common.{◌≡◌, ◌⊎◌, inl, inr, ⊎_elim, ℕ, ◌-◌, ◌≤◌, Bool, List, [], ◌++◌, length, Result, Ok, Err, sym, ◌∙◌, ap, subst, arith}
+use Rattle.std.specs.Prelude.{IfOk, OnOk}
 use Rattle.std.proofs.lemmas.List.{append-nil}
 use Rattle.rel_path.specs.Limits.{store_limit}
 use Rattle.store_dev.specs.Device.{LeavesOnly}
@@ -14,24 +14,20 @@ use Rattle.record_log.specs.Frames.{reading, frames_of, ends, IsSound}
 use Rattle.record_log.specs.Texts.{ends_append}
 use Rattle.record_log.specs.Batch.{IsBeforeOrAll}
 use Rattle.pair_frames.specs.Puts.{added}
-use Rattle.artifact_store.specs.declared.mark.StoreMark.{StoreMark}
 use Rattle.artifact_store.specs.declared.store.Store.{Store}
 use Rattle.artifact_store.specs.Pairs.{free_in}
 use Rattle.artifact_store.specs.Store as store
 use Rattle.shared_runs.specs.declared.turn.Shared.{Ghosts}
-use Rattle.shared_runs.specs.declared.turns.Turns.{Turns}
 use Rattle.shared_runs.specs.Errors.{OrFailed}
-use Rattle.shared_runs.specs.Frames.{StartWith, HoldsOn, HoldsFirst}
-use Rattle.shared_runs.specs.Marked.{IsMarked}
+use Rattle.shared_runs.specs.Frames.{StartWith, HoldsFirst}
 use Rattle.shared_runs.specs.Others.{with_pairs}
-use Rattle.shared_runs.specs.Passes.{HoldsFirstOrPut, PutsTurn}
+use Rattle.shared_runs.specs.Passes.{HoldsFirstOrPut}
 use Rattle.shared_runs.specs.Passing.{IsInTurn, BeginsTurn, LeavesFirst}
 use Rattle.shared_runs.specs.Turns.{GoesOn, LeftInTurn}
 use Rattle.shared_runs.proofs.Appending.{room_is}
-use Rattle.shared_runs.proofs.Ending.{free_less}
 use Rattle.shared_runs.proofs.Fronts.{first_all, starts_few}
 use Rattle.shared_runs.proofs.MemTurns.{frames_is}
-use Rattle.shared_runs.proofs.Turning.{goes_more, goes_then}
+use Rattle.shared_runs.proofs.Turning.{goes_then}
 
 ok_apart : (T : Type 0) (x : T) (r : Result T CacheErr) → r ≡ Err Failed → r ≡ Ok x → ⊥
 ok_apart T x (Ok y) is was = absurd cc

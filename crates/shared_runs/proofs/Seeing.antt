@@ -1,7 +1,7 @@
 -- What is seen of pairs behind which others stand.
-use Rattle.std.proofs.Common.{◌≡◌, ℕ, zero, suc, ◌+◌, ◌*◌, ◌<◌, ◌≤◌, Bool, true, false, cond, List, [], ◌∷◌, ◌++◌, length, map, max, get_or, refl, sym, ◌∙◌, ap, subst, arith, length-append, append_assoc}
+use Rattle.std.proofs.Common.{◌≡◌, ℕ, suc, ◌+◌, ◌*◌, ◌<◌, ◌≤◌, Bool, true, false, cond, List, [], ◌∷◌, ◌++◌, length, map, max, get_or, refl, sym, ◌∙◌, ap, subst, arith, length-append}
 use Rattle.std.specs.Prelude.{◌||◌, nat_lt, nat_eq}
-use Rattle.std.specs.List.{All, list_any}
+use Rattle.std.specs.List.{All}
 use Rattle.std.proofs.lemmas.Bool.{le-ltb, ne_eqb}
 use Rattle.std.proofs.lemmas.List.{append-nil, length-map, get_or_append_left}
 use Rattle.std.proofs.lemmas.List.Elements.{All-weaker}
@@ -12,7 +12,7 @@ use Rattle.record_log.specs.Kinds.{Entry}
 use Rattle.record_log.specs.Frames.{all_formed}
 use Rattle.record_log.specs.Texts.{formed_front}
 use Rattle.blob_pool.specs.Contents.{contents_of}
-use Rattle.pair_frames.specs.Pairs.{pairs_in, pairs_from, pair_in}
+use Rattle.pair_frames.specs.Pairs.{pairs_in, pairs_from}
 use Rattle.pair_frames.specs.Joins.{pairs_in-append}
 use Rattle.pair_frames.specs.Reading.{record_places, record_places-append, length-record_places, HoldsPair, pair_place, pair_read}
 use Rattle.pair_reader.specs.Answers.{is_among}

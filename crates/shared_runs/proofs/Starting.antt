@@ -1,14 +1,11 @@
 -- A shared file that was opened.
-use Rattle.std.proofs.Common.{◌≡◌, inl, inr, ⊎_elim, ℕ, ◌+◌, ◌≤◌, Bool, true, List, [], length, take, Ok, refl, sym, ◌∙◌, ap, subst, arith}
+use Rattle.std.proofs.Common.{◌≡◌, ⊎_elim, ℕ, true, List, length, take, sym, ◌∙◌, ap, subst, arith}
 use Rattle.std.specs.Prelude.{is_some}
 use Rattle.std.proofs.lemmas.List.{take_all}
 use Rattle.store_dev.specs.declared.device.StoreDevice.{Ghosts as DeviceGhosts}
-use Rattle.cache_api.specs.Pairs.{Pair}
-use Rattle.record_log.specs.Kinds.{Entry}
-use Rattle.record_log.specs.Frames.{reading, frames_of, IsSound}
+use Rattle.record_log.specs.Frames.{frames_of}
 use Rattle.pair_frames.specs.Pairs.{pairs_in}
 use Rattle.pair_index.specs.declared.seen.SeenPairs.{SeenPairs}
-use Rattle.pair_index.specs.Seen.{seen_pairs}
 use Rattle.artifact_store.proofs.Looking.{seen_all}
 use Rattle.shared_runs.specs.declared.first.FirstTurn.{FirstTurn}
 use Rattle.shared_runs.specs.declared.store.SharedStore.{SharedStore}

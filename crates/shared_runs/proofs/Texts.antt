@@ -1,13 +1,13 @@
 -- Places in the text of a file's frames.
-use Rattle.std.proofs.Common.{◌≡◌, List, [], ◌++◌, ℕ, refl, sym, ◌∙◌, ap, subst, append_assoc}
+use Rattle.std.proofs.Common.{◌≡◌, List, [], ◌++◌, ℕ, sym, ◌∙◌, ap, append_assoc}
 use Rattle.std.specs.Prelude.{IsTrue}
 use Rattle.rel_path.specs.declared.span.Span.{Span}
 use Rattle.store_dev.specs.declared.device.StoreDevice.{Ghosts}
 use Rattle.cache_api.specs.declared.hit.Hit.{Hit}
 use Rattle.record_log.specs.Kinds.{Entry}
-use Rattle.record_log.specs.Frames.{frames_of, opened, text_of, magic}
+use Rattle.record_log.specs.Frames.{opened, text_of, magic}
 use Rattle.record_log.specs.Texts.{text_of_append}
-use Rattle.artifact_reader.specs.Parts.{shown, shown_in}
+use Rattle.artifact_reader.specs.Parts.{shown}
 use Rattle.cache_api.specs.Artifacts.{Artifact}
 use Rattle.pair_reader.specs.Answers.{AllWithin, HitIsWithin}
 use Rattle.artifact_store.specs.declared.store.Store.{Store}

@@ -1,7 +1,7 @@
 -- How the time of a file goes on over a turn.
-use Rattle.std.proofs.Common.{◌≡◌, ◌⊎◌, inl, inr, ⊎_elim, ℕ, ◌≤◌, List, arith}
+use Rattle.std.proofs.Common.{inl, inr, ⊎_elim, ℕ, ◌≤◌, List, arith}
 use Rattle.store_dev.specs.Device.{OnlyReads}
-use Rattle.shared_runs.specs.Turns.{GoesOn, LeftInTurn}
+use Rattle.shared_runs.specs.Turns.{GoesOn}
 
 module _ {H : Type 0} (moment : H → ℕ) (since : H → ℕ → List ℕ → Type 0) where
   -- what is left may be said more weakly

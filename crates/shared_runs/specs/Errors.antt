@@ -1,5 +1,5 @@
 -- Errors of a turn and of an opening as a cache says them.
-use Rattle.std.specs.Prelude.{◌≡◌, ◌⊎◌, Bool, true, false, Result, Ok, Err}
+use Rattle.std.specs.Prelude.{◌≡◌, ◌⊎◌, Bool, true, false, Result, Err}
 use Rattle.cache_api.specs.declared.error.CacheErr.{CacheErr}
 use Rattle.cache_api.specs.declared.error.CacheErr.TheVariants as cache
 use Rattle.artifact_store.specs.declared.error.OpenErr.{OpenErr}

@@ -1,5 +1,5 @@
 -- How the devices of a file follow one another, in what a crash might have left.
-use Rattle.std.proofs.Common.{◌⊎◌, inl, inr, ⊎_elim, ℕ, zero, suc, ◌≤◌, ◌<◌, List, [], ◌∷◌, ◌++◌, length, arith}
+use Rattle.std.proofs.Common.{◌⊎◌, inl, inr, ⊎_elim, ℕ, zero, suc, ◌≤◌, List, [], ◌∷◌, ◌++◌, length, arith}
 use Rattle.store_dev.specs.declared.memory.MemStore.{MemStore}
 use Rattle.store_dev.specs.MemStore.{images_of, images_since_of, start_of, steps_of}
 use Rattle.store_dev.specs.Record.{counts}

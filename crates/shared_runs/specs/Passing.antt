@@ -1,5 +1,5 @@
 -- A store in the device of a turn, and the file behind the turn.
-use Rattle.std.specs.Prelude.{◌≡◌, ℕ, ◌≤◌, true, false, List, length, Ok, IsTrue}
+use Rattle.std.specs.Prelude.{◌≡◌, ℕ, ◌≤◌, true, List, length, Ok, IsTrue}
 use Rattle.store_dev.specs.Device.{Only}
 use Rattle.store_dev.specs.declared.device.StoreDevice.{Ghosts as DeviceGhosts}
 use Rattle.record_log.specs.Frames.{reading, frames_of, IsSound}

@@ -1,6 +1,5 @@
 -- A shared file as a cache of one run.
-use Rattle.std.specs.Prelude.{◌≡◌, ℕ, ◌+◌, ◌-◌, ◌≤◌, min, List, take, Option, Some, is_some}
-use Rattle.store_dev.specs.Device.{Only}
+use Rattle.std.specs.Prelude.{ℕ, ◌+◌, ◌-◌, min, List, take, Option, is_some}
 use Rattle.store_dev.specs.declared.device.StoreDevice.{Ghosts as DeviceGhosts}
 use Rattle.rel_path.specs.Limits.{store_limit}
 use Rattle.cache_api.specs.declared.hit.Hit.{Hit}

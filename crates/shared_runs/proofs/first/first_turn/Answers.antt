@@ -1,13 +1,12 @@
-use Rattle.std.proofs.Common.{◌≡◌, ℕ, List, Ok, sym, ◌∙◌, ap, subst, length}
-use Rattle.std.specs.Prelude.{◌-◌}
+use Rattle.std.proofs.Common.{◌≡◌, ℕ, List, Ok, sym, ◌∙◌, ap, length}
 use Rattle.record_log.specs.Kinds.{Entry}
-use Rattle.record_log.specs.Frames.{reading, frames_of}
+use Rattle.record_log.specs.Frames.{reading}
 use Rattle.shared_runs.specs.Views.{pairs_at}
 use Rattle.pair_reader.specs.declared.wanted.Lengths.TheVariants as lengths
 use Rattle.artifact_store.specs.Pairs.{free_in}
 use Rattle.artifact_store.specs.Store as store
 use Rattle.shared_runs.proofs.Appending.{room_is}
-use Rattle.shared_runs.proofs.Beginning.{in_turn, begins_turn, sound_back, first_goes, first_fault}
+use Rattle.shared_runs.proofs.Beginning.{in_turn, begins_turn, sound_back, first_goes}
 use Rattle.shared_runs.proofs.MemTurns.{sound_is}
 use Rattle.shared_runs.proofs.first.first_turn.Goals as goal
 

@@ -1,5 +1,4 @@
-use Rattle.std.proofs.Common.{◌≡◌, List, sym, ◌∙◌, ap, subst}
-use Rattle.record_log.specs.Kinds.{Entry}
+use Rattle.std.proofs.Common.{◌≡◌, sym, ◌∙◌, ap, subst}
 use Rattle.record_log.specs.Frames.{reading, frames_of}
 use Rattle.artifact_store.specs.Marks.{IsMarkOf, foreseen}
 use Rattle.shared_runs.proofs.Beginning.{in_turn, begins_turn, left_first, taken_first}

@@ -1,4 +1,4 @@
-use Rattle.std.proofs.Common.{inl, inr, ⊎_elim, List, ℕ}
+use Rattle.std.proofs.Common.{inl, inr, ⊎_elim}
 use Rattle.shared_runs.specs.Turns.{LeftInTurn}
 use Rattle.shared_runs.proofs.Turning.{goes_more, reads_since}
 use Rattle.shared_runs.proofs.passing.end_turn.Goals as goal

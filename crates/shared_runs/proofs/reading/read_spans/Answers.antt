@@ -1,6 +1,6 @@
-use Rattle.std.proofs.Common.{◌≡◌, ◌++◌, List, ℕ, get_or, sym, ◌∙◌, ap, subst}
+use Rattle.std.proofs.Common.{◌++◌, List, ℕ, get_or, sym, ◌∙◌, ap}
 use Rattle.rel_path.specs.declared.span.Span.{Span}
-use Rattle.store_dev.specs.Moments.{reads_none, reads_both}
+use Rattle.store_dev.specs.Moments.{reads_both}
 use Rattle.artifact_reader.specs.Parts.{at_span}
 use Rattle.artifact_store.proofs.Shown.{shown_more}
 use Rattle.shared_runs.proofs.reading.read_spans.Goals as goal

@@ -1,22 +1,19 @@
-use Rattle.std.proofs.Common.{◌≡◌, ◌≤◌, ◌+◌, ℕ, List, [], Option, Ok, get_or, refl, sym, ◌∙◌, ap, subst}
-use Rattle.std.specs.Prelude.{true, IfOk, IfSome}
-use Rattle.std.proofs.lemmas.Result.{IfOk-weaker}
+use Rattle.std.proofs.Common.{◌≡◌, ◌≤◌, ◌+◌, List, Ok, refl, ◌∙◌, ap}
+use Rattle.std.specs.Prelude.{IfSome}
 use Rattle.codes.specs.Views.{found_as}
 use Rattle.cache_api.specs.declared.hit.Hit.{Hit}
-use Rattle.cache_api.specs.declared.hit.HitFile.{HitFile}
 use Rattle.cache_api.specs.Found.{found}
-use Rattle.cache_api.specs.Hits.{span_count, bytes_at}
+use Rattle.cache_api.specs.Hits.{span_count}
 use Rattle.cache_api.specs.Keys.{text_of as key_text}
 use Rattle.cache_api.specs.Pairs.{Pair}
 use Rattle.cache_api.specs.Reading.{artifact_in}
 use Rattle.record_log.specs.Kinds.{Entry}
-use Rattle.record_log.specs.Frames.{reading, frames_of, text_of, all_formed}
+use Rattle.record_log.specs.Frames.{reading, frames_of, text_of}
 use Rattle.pair_frames.specs.Pairs.{pairs_in}
-use Rattle.artifact_reader.specs.Parts.{shown, shown_in}
+use Rattle.artifact_reader.specs.Parts.{shown_in}
 use Rattle.pair_index.specs.Seen.{seen_pairs}
-use Rattle.artifact_store.proofs.Shown.{file_shown}
 use Rattle.shared_runs.specs.Costs.{most_cost}
-use Rattle.shared_runs.specs.Shared.{file_of, frames_in, coming_in, cost_of, shows}
+use Rattle.shared_runs.specs.Shared.{file_of, coming_in, cost_of}
 use Rattle.shared_runs.specs.Views.{view_of}
 use Rattle.shared_runs.proofs.Calls.{on_ok, some_le, seen_coming, cost_coming, sees_passed, kept_passed, ok_read}
 use Rattle.shared_runs.proofs.Ending.{some_of}

@@ -1,9 +1,9 @@
-use Rattle.std.proofs.Common.{◌≡◌, ◌⊎◌, inl, inr, ◌≤◌, ◌<◌, ◌+◌, ◌-◌, ◌++◌, ℕ, List, length, length-append, min, max, refl, sym, ◌∙◌, ap, subst, arith}
-use Rattle.std.specs.Prelude.{is_some, false, Ok}
+use Rattle.std.proofs.Common.{◌≡◌, inl, inr, ◌≤◌, ◌<◌, ◌+◌, ◌-◌, ◌++◌, ℕ, List, length, length-append, min, max, refl, sym, ◌∙◌, ap, subst, arith}
+use Rattle.std.specs.Prelude.{is_some}
 use Rattle.rel_path.specs.Limits.{store_limit}
 use Rattle.std.proofs.lemmas.Result.{err_from_is_err_and}
 use Rattle.cache_api.specs.Keys.{new_pairs}
-use Rattle.cache_api.specs.Pairs.{Pair, chosen, IsFirstPart}
+use Rattle.cache_api.specs.Pairs.{chosen, IsFirstPart}
 use Rattle.cache_api.specs.Moments.{Leaves}
 use Rattle.record_log.specs.Kinds.{Entry}
 use Rattle.pair_frames.specs.Pairs.{pairs_in}
@@ -14,7 +14,7 @@ use Rattle.cache_api.specs.Cache.{IsFindErr}
 use Rattle.cache_api.specs.declared.puts.Puts.{Puts}
 use Rattle.cache_api.specs.declared.error.CacheErr.{CacheErr}
 use Rattle.cache_api.specs.declared.error.CacheErr.TheVariants.{OutOfMemory}
-use Rattle.record_log.specs.Frames.{reading, ends}
+use Rattle.record_log.specs.Frames.{ends}
 use Rattle.artifact_store.proofs.After.{after_err}
 use Rattle.artifact_store.proofs.Fits.{are_to_put, are_put_less}
 use Rattle.shared_runs.specs.Others.{with_pairs}

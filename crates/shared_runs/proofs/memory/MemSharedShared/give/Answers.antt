@@ -1,4 +1,4 @@
-use Rattle.std.proofs.Common.{rules, ◌≡◌, inl, inr, ap, arith, Bool, cond, List, [], ℕ}
+use Rattle.std.proofs.Common.{rules, ◌≡◌, inl, inr, ap, arith, Bool, cond, List, []}
 use Rattle.store_dev.specs.declared.memory.MemStore.{MemStore}
 use Rattle.cache_api.specs.Pairs.{Pair}
 use Rattle.record_log.specs.Frames.{frames_of, ends, IsSound}

@@ -1,12 +1,11 @@
-use Rattle.std.proofs.Common.{rules, ◌≡◌, inl, inr, ⊎_elim, refl, sym, ◌∙◌, ap, subst, arith, Bool, cond, List, [], ◌∷◌, ◌++◌, length, get_or, ℕ}
+use Rattle.std.proofs.Common.{rules, ◌≡◌, inl, refl, sym, ◌∙◌, ap, subst, arith, Bool, cond, List, [], ◌∷◌, ◌++◌, length, get_or}
 use Rattle.store_dev.specs.declared.memory.MemStore.{MemStore}
 use Rattle.store_dev.specs.MemStore as device
-use Rattle.cache_api.specs.Pairs.{Pair}
 use Rattle.record_log.specs.Kinds.{Entry}
 use Rattle.record_log.specs.Frames.{ends}
 use Rattle.shared_runs.specs.declared.others.OtherPut.{OtherPut}
 use Rattle.shared_runs.specs.Frames.{HoldsOneOrMore}
-use Rattle.shared_runs.specs.MemShared.{images_of, bytes_of, coming_of, devices_of, pairs_coming, puts_at, next_turn}
+use Rattle.shared_runs.specs.MemShared.{images_of, bytes_of, coming_of, devices_of, puts_at, next_turn}
 use Rattle.shared_runs.specs.MemLaws.{reads_as_image}
 use Rattle.shared_runs.specs.History.{LeftSince}
 use Rattle.shared_runs.specs.Others.{pairs_of, frames_with}

@@ -1,16 +1,12 @@
-use Rattle.std.proofs.Common.{◌≡◌, ◌≤◌, ◌+◌, inl, inr, ℕ, List, Option, Some, None, Result, Ok, Err, sym, ◌∙◌, ap, subst, arith}
-use Rattle.std.specs.Prelude.{IfOk, IfSome, IsTrue}
-use Rattle.std.proofs.lemmas.Result.{IfOk-weaker}
+use Rattle.std.proofs.Common.{◌≡◌, ◌≤◌, ◌+◌, ℕ, List, Option, Some, None, Result, Ok, Err, sym, ap, subst, arith}
+use Rattle.std.specs.Prelude.{IfOk, IfSome}
 use Rattle.store_dev.specs.Device.{OnlyReads}
 use Rattle.record_log.specs.Kinds.{Entry}
-use Rattle.record_log.specs.Frames.{frames_of, IsSound}
 use Rattle.cache_api.specs.declared.hit.Hit.{Hit}
 use Rattle.cache_api.specs.Hits.{span_count}
 use Rattle.cache_api.specs.Keys.{text_of}
-use Rattle.pair_index.specs.Costs.{cost_seen}
 use Rattle.artifact_store.specs.Store as store
 use Rattle.shared_runs.specs.Costs.{most_cost}
-use Rattle.shared_runs.specs.Frames.{StartWith}
 use Rattle.shared_runs.proofs.Ending.{some_of, passes_err, passes_reads, reads_in_turn, or_failed}
 use Rattle.shared_runs.proofs.Seeing.{cost_most}
 use Rattle.shared_runs.proofs.turns.Turns.look.Goals as goal

@@ -1,10 +1,8 @@
-use Rattle.std.proofs.Common.{◌≡◌, ◌≤◌, ℕ, ◌⊎◌, inl, inr, ◌++◌, List, length, Ok, refl, sym, ◌∙◌, ap, subst, arith}
+use Rattle.std.proofs.Common.{◌≡◌, ◌≤◌, ℕ, inl, ◌++◌, List, length, Ok, sym, ◌∙◌, ap, subst, arith}
 use Rattle.std.specs.Prelude.{◌-◌, IsTrue}
-use Rattle.store_dev.specs.Device.{LeavesOnly}
 use Rattle.rel_path.specs.Limits.{store_limit}
 use Rattle.cache_api.specs.Keys.{new_pairs}
-use Rattle.cache_api.specs.Pairs.{Pair, chosen}
-use Rattle.cache_api.specs.declared.puts.Put.{Put}
+use Rattle.cache_api.specs.Pairs.{chosen}
 use Rattle.record_log.specs.Kinds.{Entry}
 use Rattle.record_log.specs.Frames.{reading, frames_of, ends}
 use Rattle.pair_frames.specs.Pairs.{pairs_in}
@@ -15,10 +13,8 @@ use Rattle.artifact_store.specs.Outcomes.{outcomes}
 use Rattle.artifact_store.specs.Store as store
 use Rattle.artifact_store.proofs.Fits.{are_put_less}
 use Rattle.shared_runs.specs.Others.{with_pairs}
-use Rattle.shared_runs.specs.Passes.{PutsTurn}
 use Rattle.shared_runs.proofs.Appending.{room_is}
 use Rattle.shared_runs.proofs.Ending.{some_of, passes_err}
-use Rattle.shared_runs.proofs.MemTurns.{frames_is}
 use Rattle.shared_runs.proofs.Putting.{ok_was, ok_holds, ok_whole, ok_after, ok_said, put_in_turn, puts_file, puts_goes, puts_free, puts_room}
 use Rattle.shared_runs.proofs.Turning.{goes_more}
 use Rattle.shared_runs.specs.Frames.{HoldsFirst}

@@ -1,9 +1,8 @@
-use Rattle.std.proofs.Common.{◌≡◌, ◌++◌, ℕ, List, sym, ◌∙◌, ap, subst, arith}
-use Rattle.std.specs.Prelude.{IfOk}
+use Rattle.std.proofs.Common.{◌≡◌, ℕ, List, sym, ◌∙◌, ap, subst, arith}
 use Rattle.std.proofs.lemmas.Result.{IfOk-weaker}
 use Rattle.store_dev.specs.Device.{OnlyReads}
 use Rattle.record_log.specs.Kinds.{Entry}
-use Rattle.record_log.specs.Frames.{frames_of, text_of, IsSound}
+use Rattle.record_log.specs.Frames.{frames_of, text_of}
 use Rattle.artifact_reader.specs.Parts.{shown}
 use Rattle.pair_reader.specs.Answers.{AllWithin}
 use Rattle.artifact_store.specs.Store as store
