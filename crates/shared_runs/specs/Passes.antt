@@ -50,6 +50,12 @@ pub record PutsTurn {H D : Type 0} (G : Ghosts H D) (K : DeviceGhosts D) (pairs 
       → IsMarked m (G.content new.shared) (G.images new.shared)
   pub free : K.tells → free_in (G.content old.shared) ≤ old.room → free_in (G.content new.shared) ≤ new.room
 
+-- what a call that puts pairs leaves of the file
+pub record LeavesPut {H D : Type 0} (G : Ghosts H D) (pairs : List Pair) (old new : H) : Type 0 where
+  pub file : HoldsFirstOrPut (length (frames_of (G.content old))) (G.coming old) pairs (G.content new)
+  pub goes : GoesOn G.moment G.images_since old new
+      (HoldsFirstOrPut (length (frames_of (G.content old))) (G.coming old) pairs)
+
 -- The pairs were put, each for which there was room, behind so many that the file had.
 pub record IsPut (coming : List Entry) (pairs : List Pair) (file : List ℕ) (count : ℕ) (puts : List Put) : Type 0 where
   pub puts_are : puts ≡ outcomes (store_limit - ends coming) coming pairs

@@ -18,6 +18,10 @@ use Rattle.shared_runs.specs.declared.turn.Shared.{Ghosts}
 use Rattle.shared_runs.specs.Costs.{most_cost}
 use Rattle.shared_runs.specs.Views.{pairs_at, view_of, Says}
 
+-- an image says the pairs that were taken from it, whatever the run keeps
+abbrev pub said : {B : Type 0} → B → Option (List Pair) → Option (List Pair)
+said base left = left
+
 module _ {H D : Type 0} {G : Ghosts H D} {K : DeviceGhosts D} where
   -- the bytes of the file
   abbrev pub file_of : SharedStore H D G K → List ℕ

@@ -44,3 +44,6 @@ returns-clause-file g c told =
     ap (shown text) c.as_slice-2.ensures ∙ sym (file_shown text hit c.args.index file c.requires.index at) in
     IfOk-weaker c.read.result (λ bytes. bytes ≡ shown text c.as_slice-2.result.now) (λ bytes. bytes ≡ bytes_at (shows old hit) c.args.index)
     (λ bytes e. e ∙ is) (c.read.ensures.bytes told)
+
+pub returns-clause-images : goal.returns-clause-images
+returns-clause-images g c told = c.read.ensures.turn.first told

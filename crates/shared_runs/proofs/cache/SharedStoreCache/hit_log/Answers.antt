@@ -24,3 +24,6 @@ returns-clause-reads g c =
     let turn = c.read.ensures.turn in
     let stays = λ (told : g.H.Device.StoreDevice.tells). g.met.H.Shared.stays old.turns.shared told (old.sees told).sound in
     reads_view old _ m was refl turn.began turn.first c.read.ensures.room turn.grows turn.ended stays
+
+pub returns-clause-images : goal.returns-clause-images
+returns-clause-images g c told = c.read.ensures.turn.first told

@@ -76,3 +76,6 @@ returns-clause-spans g c told =
     (ok_read old new m was stays turn c.look.result c.look.ensures.stays told) (c.look.ensures.spans told)
     (λ read o le. some_le o (λ (hit : Hit). span_count hit) (most_cost old.seen coming key) (cost_of old key)
     (cost_coming old new m was stays told (read_formed content coming read) key) le)
+
+pub returns-clause-images : goal.returns-clause-images
+returns-clause-images g c told = c.look.ensures.turn.first told

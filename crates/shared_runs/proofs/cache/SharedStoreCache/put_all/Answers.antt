@@ -371,3 +371,15 @@ returns-clause-keeps g c =
     ) in
     let store = own_store old new news m was stays turn seen next refl below few in
     keeps_start old store refl (put_starts old new news m was stays turn) c.put.ensures.room turn.grows
+
+pub returns-in_err-puts-clause-images : goal.returns-in_err-puts-clause-images
+returns-in_err-puts-clause-images g c told =
+    record { file = c.put.ensures.turn.file told; goes = c.put.ensures.turn.goes told }
+
+pub returns-in_err-own-clause-images : goal.returns-in_err-own-clause-images
+returns-in_err-own-clause-images g c told =
+    record { file = c.put.ensures.turn.file told; goes = c.put.ensures.turn.goes told }
+
+pub returns-clause-images : goal.returns-clause-images
+returns-clause-images g c told =
+    record { file = c.put.ensures.turn.file told; goes = c.put.ensures.turn.goes told }
