@@ -1,7 +1,8 @@
 // A shared file in memory.
-ghost use Rattle.std.specs.Prelude.{true, false, ◌≡◌, ◌↔◌, ◌<◌, ◌≤◌, ◌+◌, ◌-◌, ◌^◌, [], List, ℕ, min, get_or, IsTrue, IfOk, vec_len, vec_capacity};
+ghost use Rattle.std.specs.Prelude.{true, false, ◌≡◌, ◌↔◌, ◌<◌, ◌≤◌, ◌+◌, ◌-◌, ◌^◌, [], List, ℕ, min, get_or, IsTrue, IfOk, IfErr, IsErrOf, vec_len, vec_capacity};
 ghost use Rattle.std.specs.List.{Contains};
 ghost use Rattle.rel_path.specs.Causes.{Rose, Counts};
+ghost use Rattle.store_dev.specs.Device.{Only, Within};
 ghost use Rattle.store_dev.specs.MemStore.{bytes_of as device_bytes};
 ghost use Rattle.shared_runs.specs.Appended.{IsBegun, IsFresh};
 ghost use Rattle.shared_runs.specs.Others.{pairs_of};
@@ -102,7 +103,7 @@ impl Shared for MemShared {
     ghost use Rattle.record_log.specs.Frames.{frames_of, ends, IsSound};
     ghost use Rattle.shared_runs.specs.Frames.{HoldsOn, HoldsOneOrMore};
     ghost use Rattle.shared_runs.specs.HistoryLaws.{left_earlier, left_last, left_now};
-    ghost use Rattle.shared_runs.specs.MemShared.{bytes_of, images_of, moment_of, images_since_of, faults_of, turn_of, coming_of, devices_of};
+    ghost use Rattle.shared_runs.specs.MemShared.{bytes_of, images_of, moment_of, images_since_of, faults_of, turn_of, coming_of, devices_of, next_turn, next_after, IsFailing, IsCalled};
     ghost use Rattle.shared_runs.specs.MemLaws.{reads_as_image, stays_coming};
     ghost use Rattle.shared_runs.specs.Turns.{is_fault, HeldAfter, IsTurnOf, HoldsFile, IsTaken, GoesOn, NoFault, LeftInTurn};
 
@@ -132,7 +133,27 @@ impl Shared for MemShared {
 
     ghost stays = { λ m _ sound. stays_coming m sound };
 
-    fn take(&mut self, alloc: Global) -> Result<MemStore, TurnErr> {
+    fn take(&mut self, alloc: Global) -> Result<MemStore, TurnErr>
+        requires { (turn_of self.old).held ≡ false }
+        ensures held { HeldAfter result (turn_of self.new) }
+        ensures began { (turn_of self.new).began ≡ moment_of self.old }
+        ensures begun { IfOk result
+            (IsTurnOf ⟦<MemStore as StoreDevice>⟧ (turn_of self.new) (faults_of self.new)) }
+        ensures device { ⟦<MemStore as StoreDevice>⟧.tells → IfOk result
+            (HoldsFile ⟦<MemStore as StoreDevice>⟧ (bytes_of self.new) (images_of self.new)) }
+        ensures taken { ⟦<MemStore as StoreDevice>⟧.tells → IfOk result (λ _. IsTaken (bytes_of self.old)
+            (coming_of self.old) (bytes_of self.new) (images_of self.new)) }
+        ensures file { ⟦<MemStore as StoreDevice>⟧.tells → HoldsOneOrMore (λ c. c ≡ bytes_of self.old)
+            (bytes_of self.old) (coming_of self.old) (bytes_of self.new) }
+        ensures time { ⟦<MemStore as StoreDevice>⟧.tells → GoesOn moment_of images_since_of self.old self.new
+            (HoldsOneOrMore (images_of self.old) (bytes_of self.old) (coming_of self.old)) }
+        ensures grows { ends (coming_of self.old) ≤ ends (coming_of self.new) }
+        ensures cause { Counts is_fault (faults_of self.old) (faults_of self.new) result }
+        // It fails too where the device of the others fails, which it does not.
+        ensures fails { IsFailing self.old → IsErrOf result TurnErr.Failed }
+        ensures called { IsCalled self.old self.new }
+        ensures next { next_turn self.new ≡ next_after result (next_turn self.old) }
+    {
         self.began = self.past.len();
         if next_fails(&mut self.calls, &mut self.faults, &self.fails) {
             return Err(TurnErr::Failed);
@@ -155,7 +176,31 @@ impl Shared for MemShared {
         Ok(device)
     }
 
-    fn give(&mut self, device: MemStore) -> Result<(), TurnErr> {
+    fn give(&mut self, device: MemStore) -> Result<(), TurnErr>
+        requires held { (turn_of self.old).held ≡ true }
+        requires count { (turn_of self.old).count ≤ ⟦<MemStore as StoreDevice>⟧.store_faults device }
+        requires kept { ⟦<MemStore as StoreDevice>⟧.tells → IsSound (bytes_of self.old) → (c : List ℕ)
+            → ⟦<MemStore as StoreDevice>⟧.images_since device (turn_of self.old).start c
+            → HoldsOn (frames_of (bytes_of self.old)) c }
+        requires synced { ⟦<MemStore as StoreDevice>⟧.tells
+            → NoFault (turn_of self.old).count (⟦<MemStore as StoreDevice>⟧.store_faults device)
+            → Only (⟦<MemStore as StoreDevice>⟧.content device) (⟦<MemStore as StoreDevice>⟧.images device) }
+        ensures held { (turn_of self.new).held ≡ false }
+        ensures began { (turn_of self.new).began ≡ (turn_of self.old).began }
+        ensures file { ⟦<MemStore as StoreDevice>⟧.tells → bytes_of self.new ≡ ⟦<MemStore as StoreDevice>⟧.content device }
+        ensures images { ⟦<MemStore as StoreDevice>⟧.tells → Within (images_of self.new) (⟦<MemStore as StoreDevice>⟧.images device) }
+        ensures time { ⟦<MemStore as StoreDevice>⟧.tells → GoesOn moment_of images_since_of self.old self.new
+            (LeftInTurn (images_of self.old)
+            (⟦<MemStore as StoreDevice>⟧.images_since device (turn_of self.old).start)) }
+        ensures grows { ends (coming_of self.old) ≤ ends (coming_of self.new) }
+        ensures only { IfErr result (λ e. e ≡ TurnErr.Failed) }
+        ensures cause { Counts is_fault
+            (faults_of self.old + (⟦<MemStore as StoreDevice>⟧.store_faults device - (turn_of self.old).count))
+            (faults_of self.new) result }
+        ensures fails { IsErrOf result TurnErr.Failed ↔ IsFailing self.old }
+        ensures called { IsCalled self.old self.new }
+        ensures next { next_turn self.new ≡ next_turn self.old }
+    {
         let before = mem::replace(&mut self.file, device);
         // There is room for it, made by `take`.
         self.past.push(before)?;
