@@ -1,8 +1,10 @@
 // A shared file as a cache of one run.
-ghost use Rattle.std.specs.Prelude.{◌≡◌, ◌+◌, ◌<◌, ◌≤◌, List, ℕ, length, IsTrue, IfOk, IfErr, IfSome};
+ghost use Rattle.std.specs.Prelude.{◌≡◌, ◌+◌, ◌<◌, ◌≤◌, List, ℕ, length, IsTrue, IfOk, IfErr};
+ghost use Rattle.std.specs.Prelude.{IfSome};
 ghost use Rattle.rel_path.specs.Causes.{Counts};
 ghost use Rattle.codes.specs.Views.{found_as};
-ghost use Rattle.cache_api.specs.Cache.{CacheReads, Keeps, HitsStay, StaysWhole, AllAfter, ArePut, AreToPut, is_fault, IsFindErr};
+ghost use Rattle.cache_api.specs.Cache.{CacheReads, Keeps, HitsStay, StaysWhole, AllAfter, ArePut};
+ghost use Rattle.cache_api.specs.Cache.{AreToPut, is_fault, IsFindErr};
 ghost use Rattle.cache_api.specs.Found.{found};
 ghost use Rattle.cache_api.specs.Hits.{paths_ascend, owns_paths, span_count, file_spans, bytes_at};
 ghost use Rattle.cache_api.specs.Keys.{text_of as key_text, new_pairs};
@@ -23,7 +25,8 @@ impl<H: Shared> Cache for SharedStore<H> {
     ghost use Rattle.std.specs.Prelude.{Option};
     ghost use Rattle.cache_api.specs.Pairs.{Pair};
     ghost use Rattle.artifact_store.specs.Hits.{shown_paths};
-    ghost use Rattle.shared_runs.specs.Shared.{frames_in, state_of, cost_of, stands, shows, stores, moment_of, left_of, said};
+    ghost use Rattle.shared_runs.specs.Shared.{frames_in, state_of, cost_of, stands, shows, stores};
+    ghost use Rattle.shared_runs.specs.Shared.{moment_of, left_of, said};
     ghost use Rattle.shared_runs.specs.Passing.{LeavesFirst};
     ghost use Rattle.shared_runs.specs.Passes.{LeavesPut};
     ghost use Rattle.shared_runs.specs.SharedLaws.{rests};
@@ -72,8 +75,8 @@ impl<H: Shared> Cache for SharedStore<H> {
         ensures spans { H.Device.tells → IfOk result (λ o. IfSome o (λ hit.
             (state_of self.new).probes + span_count hit
             ≤ (state_of self.old).probes + cost_of self.old (key_text key.entry))) }
-        ensures reads { CacheReads H.Device.tells state_of cost_of stands shows moment_of left_of said
-            self.old self.new }
+        ensures reads { CacheReads H.Device.tells state_of cost_of stands shows moment_of
+            left_of said self.old self.new }
         // Each image since, and the file, hold the frames that the file had and the first of those
         // that were to come.
         ensures images { H.Device.tells
@@ -92,8 +95,8 @@ impl<H: Shared> Cache for SharedStore<H> {
         ensures log { H.Device.tells → IfOk result (λ log. log ≡ (shows self.old hit.now).0) }
         ensures probes { (state_of self.new).probes
             ≤ (state_of self.old).probes + length hit.now.log }
-        ensures reads { CacheReads H.Device.tells state_of cost_of stands shows moment_of left_of said
-            self.old self.new }
+        ensures reads { CacheReads H.Device.tells state_of cost_of stands shows moment_of
+            left_of said self.old self.new }
         // Each image since, and the file, hold the frames that the file had and the first of those
         // that were to come.
         ensures images { H.Device.tells
@@ -114,8 +117,8 @@ impl<H: Shared> Cache for SharedStore<H> {
             → IfOk result (λ bytes. bytes ≡ bytes_at (shows self.old hit.now) index) }
         ensures probes { (state_of self.new).probes
             ≤ (state_of self.old).probes + file_spans hit.now index }
-        ensures reads { CacheReads H.Device.tells state_of cost_of stands shows moment_of left_of said
-            self.old self.new }
+        ensures reads { CacheReads H.Device.tells state_of cost_of stands shows moment_of
+            left_of said self.old self.new }
         // Each image since, and the file, hold the frames that the file had and the first of those
         // that were to come.
         ensures images { H.Device.tells
@@ -129,8 +132,9 @@ impl<H: Shared> Cache for SharedStore<H> {
         self.turns.read(alloc, file.spans.as_slice())
     }
 
-    /// One append behind the frames that others appended before the turn. Where a call of the turn failed, the pairs are
-    /// as before, and what the file then holds of the new ones counts as another run's.
+    /// One append behind the frames that others appended before the turn. Where a call of the turn
+    /// failed, the pairs are as before, and what the file then holds of the new ones counts as
+    /// another run's.
     fn put_all(&mut self, alloc: Global, pairs: &[NewPair]) -> Result<Puts, CacheErr>
         requires { IsTrue (state_of self.old).whole }
         ensures outcome { H.Device.tells

@@ -1,5 +1,7 @@
 // A shared file in memory.
-ghost use Rattle.std.specs.Prelude.{true, false, ◌≡◌, ◌↔◌, ◌<◌, ◌≤◌, ◌+◌, ◌-◌, ◌^◌, [], List, ℕ, min, get_or, IsTrue, IfOk, IfErr, IsErrOf, vec_len, vec_capacity};
+ghost use Rattle.std.specs.Prelude.{true, false, ◌≡◌, ◌↔◌, ◌<◌, ◌≤◌, ◌+◌, ◌-◌, ◌^◌, [], List, ℕ};
+ghost use Rattle.std.specs.Prelude.{min, get_or, IsTrue, IfOk, IfErr, IsErrOf, vec_len};
+ghost use Rattle.std.specs.Prelude.{vec_capacity};
 ghost use Rattle.std.specs.List.{Contains};
 ghost use Rattle.rel_path.specs.Causes.{Rose, Counts};
 ghost use Rattle.store_dev.specs.Device.{Only, Within};
@@ -15,10 +17,11 @@ use std::alloc::Global;
 use std::mem;
 use store_dev::{MemStore, StoreDevice};
 
-/// A shared file in memory, into which other runs put pairs between the turns, and which fails where it is told to.
+/// A shared file in memory, into which other runs put pairs between the turns, and which fails
+/// where it is told to.
 ///
-/// It is for tests: each turn has a device of its own, and the earlier ones are kept, since they tell what a crash might
-/// have left.
+/// It is for tests: each turn has a device of its own, and the earlier ones are kept, since they
+/// tell what a crash might have left.
 #[derive(Drop)]
 pub struct MemShared {
     file: MemStore,
@@ -36,11 +39,13 @@ pub struct MemShared {
 }
 
 impl MemShared {
-    ghost use Rattle.shared_runs.specs.MemShared.{bytes_of, moment_of, faults_of, turn_of, next_turn};
+    ghost use Rattle.shared_runs.specs.MemShared.{bytes_of, moment_of, faults_of, turn_of};
+    ghost use Rattle.shared_runs.specs.MemShared.{next_turn};
 
-    /// A file with these bytes, all of them synced. Before the turn with each number, counted from 0 over the turns that
-    /// are taken, the pairs with that number are put where the file is a store, each where there is room for it. The
-    /// calls with the numbers in `fails` fail, counted from 0 over all calls of `take` and `give`. It takes no memory.
+    /// A file with these bytes, all of them synced. Before the turn with each number, counted from
+    /// 0 over the turns that are taken, the pairs with that number are put where the file is a
+    /// store, each where there is room for it. The calls with the numbers in `fails` fail, counted
+    /// from 0 over all calls of `take` and `give`. It takes no memory.
     pub fn new(alloc: Global, bytes: Bytes, others: Vec<OtherPuts>, fails: Vec<u64>) -> MemShared
         ensures bytes { bytes_of result ≡ bytes }
         ensures moment { moment_of result ≡ 0 }
@@ -103,9 +108,12 @@ impl Shared for MemShared {
     ghost use Rattle.record_log.specs.Frames.{frames_of, ends, IsSound};
     ghost use Rattle.shared_runs.specs.Frames.{HoldsOn, HoldsOneOrMore};
     ghost use Rattle.shared_runs.specs.HistoryLaws.{left_earlier, left_last, left_now};
-    ghost use Rattle.shared_runs.specs.MemShared.{bytes_of, images_of, moment_of, images_since_of, faults_of, turn_of, coming_of, devices_of, next_turn, next_after, IsFailing, IsCalled};
+    ghost use Rattle.shared_runs.specs.MemShared.{bytes_of, images_of, moment_of, images_since_of};
+    ghost use Rattle.shared_runs.specs.MemShared.{faults_of, turn_of, coming_of, devices_of};
+    ghost use Rattle.shared_runs.specs.MemShared.{next_turn, next_after, IsFailing, IsCalled};
     ghost use Rattle.shared_runs.specs.MemLaws.{reads_as_image, stays_coming};
-    ghost use Rattle.shared_runs.specs.Turns.{is_fault, HeldAfter, IsTurnOf, HoldsFile, IsTaken, GoesOn, NoFault, LeftInTurn};
+    ghost use Rattle.shared_runs.specs.Turns.{is_fault, HeldAfter, IsTurnOf, HoldsFile, IsTaken};
+    ghost use Rattle.shared_runs.specs.Turns.{GoesOn, NoFault, LeftInTurn};
 
     type Device = MemStore;
 
@@ -141,15 +149,18 @@ impl Shared for MemShared {
             (IsTurnOf ⟦<MemStore as StoreDevice>⟧ (turn_of self.new) (faults_of self.new)) }
         ensures device { ⟦<MemStore as StoreDevice>⟧.tells → IfOk result
             (HoldsFile ⟦<MemStore as StoreDevice>⟧ (bytes_of self.new) (images_of self.new)) }
-        ensures taken { ⟦<MemStore as StoreDevice>⟧.tells → IfOk result (λ _. IsTaken (bytes_of self.old)
-            (coming_of self.old) (bytes_of self.new) (images_of self.new)) }
-        ensures file { ⟦<MemStore as StoreDevice>⟧.tells → HoldsOneOrMore (λ c. c ≡ bytes_of self.old)
+        ensures taken { ⟦<MemStore as StoreDevice>⟧.tells → IfOk result (λ _.
+            IsTaken (bytes_of self.old) (coming_of self.old)
+            (bytes_of self.new) (images_of self.new)) }
+        ensures file { ⟦<MemStore as StoreDevice>⟧.tells
+            → HoldsOneOrMore (λ c. c ≡ bytes_of self.old)
             (bytes_of self.old) (coming_of self.old) (bytes_of self.new) }
-        ensures time { ⟦<MemStore as StoreDevice>⟧.tells → GoesOn moment_of images_since_of self.old self.new
+        ensures time { ⟦<MemStore as StoreDevice>⟧.tells
+            → GoesOn moment_of images_since_of self.old self.new
             (HoldsOneOrMore (images_of self.old) (bytes_of self.old) (coming_of self.old)) }
         ensures grows { ends (coming_of self.old) ≤ ends (coming_of self.new) }
         ensures cause { Counts is_fault (faults_of self.old) (faults_of self.new) result }
-        // It fails too where the device of the others fails, which it does not.
+        // The calls with these numbers fail.
         ensures fails { IsFailing self.old → IsErrOf result TurnErr.Failed }
         ensures called { IsCalled self.old self.new }
         ensures next { next_turn self.new ≡ next_after result (next_turn self.old) }
@@ -178,24 +189,31 @@ impl Shared for MemShared {
 
     fn give(&mut self, device: MemStore) -> Result<(), TurnErr>
         requires held { (turn_of self.old).held ≡ true }
-        requires count { (turn_of self.old).count ≤ ⟦<MemStore as StoreDevice>⟧.store_faults device }
-        requires kept { ⟦<MemStore as StoreDevice>⟧.tells → IsSound (bytes_of self.old) → (c : List ℕ)
+        requires count { (turn_of self.old).count
+            ≤ ⟦<MemStore as StoreDevice>⟧.store_faults device }
+        requires kept { ⟦<MemStore as StoreDevice>⟧.tells → IsSound (bytes_of self.old)
+            → (c : List ℕ)
             → ⟦<MemStore as StoreDevice>⟧.images_since device (turn_of self.old).start c
             → HoldsOn (frames_of (bytes_of self.old)) c }
         requires synced { ⟦<MemStore as StoreDevice>⟧.tells
             → NoFault (turn_of self.old).count (⟦<MemStore as StoreDevice>⟧.store_faults device)
-            → Only (⟦<MemStore as StoreDevice>⟧.content device) (⟦<MemStore as StoreDevice>⟧.images device) }
+            → Only (⟦<MemStore as StoreDevice>⟧.content device)
+            (⟦<MemStore as StoreDevice>⟧.images device) }
         ensures held { (turn_of self.new).held ≡ false }
         ensures began { (turn_of self.new).began ≡ (turn_of self.old).began }
-        ensures file { ⟦<MemStore as StoreDevice>⟧.tells → bytes_of self.new ≡ ⟦<MemStore as StoreDevice>⟧.content device }
-        ensures images { ⟦<MemStore as StoreDevice>⟧.tells → Within (images_of self.new) (⟦<MemStore as StoreDevice>⟧.images device) }
-        ensures time { ⟦<MemStore as StoreDevice>⟧.tells → GoesOn moment_of images_since_of self.old self.new
+        ensures file { ⟦<MemStore as StoreDevice>⟧.tells
+            → bytes_of self.new ≡ ⟦<MemStore as StoreDevice>⟧.content device }
+        ensures images { ⟦<MemStore as StoreDevice>⟧.tells
+            → Within (images_of self.new) (⟦<MemStore as StoreDevice>⟧.images device) }
+        ensures time { ⟦<MemStore as StoreDevice>⟧.tells
+            → GoesOn moment_of images_since_of self.old self.new
             (LeftInTurn (images_of self.old)
             (⟦<MemStore as StoreDevice>⟧.images_since device (turn_of self.old).start)) }
         ensures grows { ends (coming_of self.old) ≤ ends (coming_of self.new) }
         ensures only { IfErr result (λ e. e ≡ TurnErr.Failed) }
         ensures cause { Counts is_fault
-            (faults_of self.old + (⟦<MemStore as StoreDevice>⟧.store_faults device - (turn_of self.old).count))
+            (faults_of self.old
+            + (⟦<MemStore as StoreDevice>⟧.store_faults device - (turn_of self.old).count))
             (faults_of self.new) result }
         ensures fails { IsErrOf result TurnErr.Failed ↔ IsFailing self.old }
         ensures called { IsCalled self.old self.new }
@@ -212,14 +230,15 @@ impl Shared for MemShared {
     }
 }
 
-/// The device of the file as the next turn begins, and another one with the same bytes, to be handed
-/// out.
+/// The device of the file as the next turn begins, and another one with the same bytes, to be
+/// handed out.
 fn next_file(
     alloc: Global,
     file: &MemStore,
     puts: &[OtherPut],
 ) -> Result<(MemStore, MemStore), TurnErr>
-    ensures file { IfOk result (λ both. IsBegun (device_bytes file.now) (pairs_of puts.now) both.0) }
+    ensures file { IfOk result
+        (λ both. IsBegun (device_bytes file.now) (pairs_of puts.now) both.0) }
     ensures device { IfOk result (λ both. IsFresh (device_bytes both.0) both.1) }
 {
     let begun = fresh(alloc, file.bytes())?;

@@ -21,8 +21,8 @@ pub(crate) fn stored(puts: &[Put]) -> u64
     count
 }
 
-/// These numbers with so many more behind them, from that one on, and the number behind all of them. Numbers that do not
-/// fit are want of memory.
+/// These numbers with so many more behind them, from that one on, and the number behind all of
+/// them. Numbers that do not fit are want of memory.
 pub(crate) fn with_own(
     alloc: Global,
     own: &Numbers,

@@ -19,7 +19,8 @@ pub(crate) fn read_spans<S: StoreDevice>(
     spans: &[Span],
 ) -> Result<Bytes, CacheErr>
     requires { S.tells → AllWithin (S.content device.old) spans.now }
-    ensures bytes { S.tells → IfOk result (λ bytes. bytes ≡ shown (S.content device.old) spans.now) }
+    ensures bytes { S.tells
+        → IfOk result (λ bytes. bytes ≡ shown (S.content device.old) spans.now) }
     ensures reads { OnlyReads S.content S.images S.moment S.images_since device.old device.new }
     ensures answers { IfErr result IsFindErr }
     ensures cause { Counts is_fault (S.store_faults device.old) (S.store_faults device.new) result }

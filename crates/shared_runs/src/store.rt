@@ -13,10 +13,11 @@ use pair_index::{Numbers, SeenPairs};
 use record_log::Unopened;
 use std::alloc::Global;
 
-/// One run's cache in a file that several runs use. It sees the pairs of its first turn and those that it puts itself.
+/// One run's cache in a file that several runs use. It sees the pairs of its first turn and those
+/// that it puts itself.
 ///
-/// Each call takes the turn, reads the frames that came since, does its work, syncs and gives the turn back, whatever it
-/// answers. After a call that answered `Failed` no further turn is taken.
+/// Each call takes the turn, reads the frames that came since, does its work, syncs and gives the
+/// turn back, whatever it answers. After a call that answered `Failed` no further turn is taken.
 #[derive(Drop)]
 pub struct SharedStore<H: Shared> {
     pub(crate) turns: Turns<H>,
@@ -34,8 +35,9 @@ impl<H: Shared> SharedStore<H> {
     ghost use Rattle.shared_runs.specs.First.{TellsFile};
     ghost use Rattle.shared_runs.specs.Opened.{IsOpened, IsUnopened};
 
-    /// Takes the first turn, and opens the file as a store, which is then written where at most nine bytes stand in it.
-    /// The pairs are those that it finds. What is no store is handed back, and its turn is not held.
+    /// Takes the first turn, and opens the file as a store, which is then written where at most
+    /// nine bytes stand in it. The pairs are those that it finds. What is no store is handed back,
+    /// and its turn is not held.
     pub fn open(alloc: Global, shared: H) -> Result<SharedStore<H>, Unopened<H, OpenErr>>
         requires { (H.turn shared).held ≡ false }
         ensures opened { IfOk result (IsOpened H.Shared H.Device.StoreDevice shared) }

@@ -40,13 +40,15 @@ impl<T: Drop> From<AllocFailed<T>> for TurnErr {
     }
 }
 
-/// A file that several runs use, one at a time. Who holds the turn has the device, and the others wait.
+/// A file that several runs use, one at a time. Who holds the turn has the device, and the others
+/// wait.
 ///
-/// The file is sound where it is a store (`record_log`). The runs append whole frames to a sound file
-/// and do nothing else to it. Where a file is told, it is told too which frames will stand in it as
-/// the next turn is taken; of a real file nothing is told.
+/// The file is sound where it is a store (`record_log`). The runs append whole frames to a sound
+/// file and do nothing else to it. Where a file is told, it is told too which frames will stand in
+/// it as the next turn is taken; of a real file nothing is told.
 pub trait Shared {
-    ghost use Rattle.shared_runs.specs.Turns.{Turn, is_fault, HeldAfter, IsTurnOf, HoldsFile, IsTaken, GoesOn, NoFault, LeftInTurn};
+    ghost use Rattle.shared_runs.specs.Turns.{Turn, is_fault, HeldAfter, IsTurnOf, HoldsFile};
+    ghost use Rattle.shared_runs.specs.Turns.{IsTaken, GoesOn, NoFault, LeftInTurn};
 
     /// What is handed out with the turn. The file is told where the bytes of the device are.
     type Device: StoreDevice;

@@ -1,5 +1,6 @@
 // The turns of a run, one after another.
-ghost use Rattle.std.specs.Prelude.{◌≡◌, ◌≤◌, ◌+◌, Some, None, true, false, is_some, min, length, IsTrue, IfOk, IfErr, IfSome, OnErr};
+ghost use Rattle.std.specs.Prelude.{◌≡◌, ◌≤◌, ◌+◌, Some, None, true, false, is_some, min, length};
+ghost use Rattle.std.specs.Prelude.{IsTrue, IfOk, IfErr, IfSome, OnErr};
 ghost use Rattle.rel_path.specs.Causes.{Counts};
 ghost use Rattle.record_log.specs.Frames.{IsSound, ends, frames_of, text_of};
 ghost use Rattle.cache_api.specs.Cache.{ArePut, IsFindErr, StaysWhole, is_fault};
@@ -78,8 +79,8 @@ impl<H: Shared> Turns<H> {
         Ok(store)
     }
 
-    /// Ends the turn with its device, of whose frames the mark tells, and hands on what a call in it answered. The mark is
-    /// kept where the turn ended well and that call answered no error.
+    /// Ends the turn with its device, of whose frames the mark tells, and hands on what a call in
+    /// it answered. The mark is kept where the turn ended well and that call answered no error.
     pub(crate) fn close_turn<T: Drop>(
         &mut self,
         mark: StoreMark,
@@ -123,7 +124,8 @@ impl<H: Shared> Turns<H> {
 impl<H: Shared> Turns<H> {
     ghost use Rattle.shared_runs.specs.Passes.{PassesTurn, PutsTurn, IsPut};
 
-    /// Where the artifact stands that the last pair with that key gives which gives one, of the pairs that are seen.
+    /// Where the artifact stands that the last pair with that key gives which gives one, of the
+    /// pairs that are seen.
     pub(crate) fn look(
         &mut self,
         alloc: Global,
@@ -182,16 +184,18 @@ impl<H: Shared> Turns<H> {
         self.close_turn(mark, device, bytes)
     }
 
-    /// Adds pairs behind the frames that the file has as the turn is taken, in one append, and tells of each whether there
-    /// was room.
+    /// Adds pairs behind the frames that the file has as the turn is taken, in one append, and
+    /// tells of each whether there was room.
     pub(crate) fn put(&mut self, alloc: Global, pairs: &[NewPair]) -> Result<Puts, CacheErr>
         requires idle { (H.turn self.old.shared).held ≡ false }
         requires whole { IsTrue (is_some self.old.mark) }
         requires known { (m : StoreMark) → self.old.mark ≡ Some m → H.Device.tells
             → IsMarked m (H.content self.old.shared) (H.images self.old.shared) }
-        ensures turn { PutsTurn H.Shared H.Device.StoreDevice (new_pairs pairs.now) self.old self.new }
+        ensures turn { PutsTurn H.Shared H.Device.StoreDevice (new_pairs pairs.now)
+            self.old self.new }
         ensures done { H.Device.tells → IfOk result
-            (IsPut (H.coming self.old.shared) (new_pairs pairs.now) (H.content self.new.shared) self.new.count) }
+            (IsPut (H.coming self.old.shared) (new_pairs pairs.now)
+            (H.content self.new.shared) self.new.count) }
         ensures put { IfOk result (λ puts. ArePut self.new.room (new_pairs pairs.now) puts) }
         ensures room { self.new.room ≤ self.old.room }
         ensures stays { StaysWhole result true (is_some self.new.mark) }
