@@ -1,0 +1,16 @@
+pub mod MemTurns
+pub mod Appending
+pub mod Turning
+pub mod Fronts
+pub mod Beginning
+pub mod Starting
+pub mod Ending
+pub mod Putting
+pub mod Formed
+pub mod Seeing
+pub mod Leaving
+pub mod Passed
+pub mod Texts
+pub mod Calls
+pub mod Owning
+pub mod PutCalls

@@ -1,0 +1,29 @@
+use Rattle.std.proofs.Common.{refl}
+use Rattle.shared_runs.proofs.Calls.{sees_passed, kept_passed}
+use Rattle.shared_runs.proofs.Ending.{some_of}
+use Rattle.shared_runs.proofs.Passed.{reads_view}
+use Rattle.shared_runs.proofs.cache.SharedStoreCache.hit_log.Goals as goal
+
+pub invariant_of-self : goal.invariant_of-self
+invariant_of-self g c =
+    let old = c.args.self.now in
+    let (m, was) = some_of old.turns.mark c.requires.whole in
+    let turn = c.read.ensures.turn in
+    let stays = λ (told : g.H.Device.StoreDevice.tells). g.met.H.Shared.stays old.turns.shared told (old.sees told).sound in
+    record {
+      idle = turn.held;
+      below = old.below;
+      sees = sees_passed old c.read.new.self m was stays turn;
+      kept = kept_passed old c.read.new.self m was stays turn;
+    }
+
+pub returns-clause-reads : goal.returns-clause-reads
+returns-clause-reads g c =
+    let old = c.args.self.now in
+    let (m, was) = some_of old.turns.mark c.requires.whole in
+    let turn = c.read.ensures.turn in
+    let stays = λ (told : g.H.Device.StoreDevice.tells). g.met.H.Shared.stays old.turns.shared told (old.sees told).sound in
+    reads_view old _ m was refl turn.began turn.first c.read.ensures.room turn.grows turn.ended stays
+
+pub returns-clause-images : goal.returns-clause-images
+returns-clause-images g c told = c.read.ensures.turn.first told
