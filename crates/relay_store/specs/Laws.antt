@@ -22,7 +22,8 @@ use Rattle.relay_store.specs.Stores.{state_in, moment_in, images_in}
 use Rattle.relay_store.specs.Parts.{first_of, more_of, pairs_of, space_of, into}
 use Rattle.relay_store.specs.Puts.{Space, need, takes, puts_in}
 use Rattle.relay_store.specs.Relays.{RelayBase, first_pairs, says_by, says, IsNotedBy}
-use Rattle.relay_store.specs.Relays.{stores, stores_of, IsNoted, base_of, state_of, moment_of, left_of}
+use Rattle.relay_store.specs.Relays.{stores, stores_of, IsNoted, base_of, state_of, moment_of}
+use Rattle.relay_store.specs.Relays.{left_of}
 use Rattle.relay_store.specs.Relays.Image.{Local, Second}
 use Rattle.relay_store.specs.Rests.{parted, later_local, later_second}
 
