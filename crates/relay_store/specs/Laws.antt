@@ -18,11 +18,12 @@ use Rattle.pair_frames.specs.Puts.{put_size}
 use Rattle.artifact_store.specs.Pairs.{told_as}
 use Rattle.relay_store.specs.declared.relay.Relay.{Relay}
 use Rattle.relay_store.specs.Fronts.{in_place_was, is_first}
-use Rattle.relay_store.specs.Stores.{moment_in, images_in}
+use Rattle.relay_store.specs.Stores.{state_in, moment_in, images_in}
 use Rattle.relay_store.specs.Parts.{first_of, more_of, pairs_of, space_of, into}
 use Rattle.relay_store.specs.Puts.{Space, need, takes, puts_in}
 use Rattle.relay_store.specs.Relays.{RelayBase, first_pairs, says_by, says, IsNotedBy}
-use Rattle.relay_store.specs.Relays.{stores, IsNoted, base_of, state_of, moment_of, left_of}
+use Rattle.relay_store.specs.Relays.{stores, stores_of, IsNoted, base_of, state_of, moment_of}
+use Rattle.relay_store.specs.Relays.{left_of}
 use Rattle.relay_store.specs.Relays.Image.{Local, Second}
 use Rattle.relay_store.specs.Rests.{parted, later_local, later_second}
 
@@ -314,3 +315,64 @@ module _ {S R : Type 0} {G : Ghosts S} {H : Ghosts R} (r : Relay S R G H) (whole
             (more_of r.second) r.added agree.counted agree.same;
         none = agree.second_none;
       }
+
+-- ---- the laws, said of all relays
+
+-- between two moments of a relay that may be used at first and keeps its base, a crash leaves its pairs
+-- and the first of these
+abbrev pub Adds : {S R : Type 0} {G : Ghosts S} {H : Ghosts R} → Relay S R G H → Relay S R G H
+    → List Pair → Type 0
+Adds old new added = Leaves moment_of left_of old new
+    (λ image. IsFirstPart (state_of old).pairs added (says (state_of old).base image))
+
+-- then a crash leaves of the local device the pairs of its store, and the first of these where it is
+-- put into
+abbrev pub LocalAdds : {S R : Type 0} (G : Ghosts S) (H : Ghosts R) → Type 0
+LocalAdds {S = S} {R = R} G H = (old new : Relay S R G H) (added : List Pair)
+    → IsTrue (state_of old).whole → G.tells → H.tells
+    → (state_of new).base ≡ (state_of old).base → Adds old new added
+    → LeavesOnly moment_in images_in (stores_of old).0 (stores_of new).0
+    (λ c. IsFirstPart (state_in (stores_of old).0).pairs
+    (into (state_of old).base.access.local_puts added)
+    (told_as (state_of old).base.local.generation c))
+
+-- and the same of the second one
+abbrev pub SecondAdds : {S R : Type 0} (G : Ghosts S) (H : Ghosts R) → Type 0
+SecondAdds {S = S} {R = R} G H = (old new : Relay S R G H) (added : List Pair)
+    → IsTrue (state_of old).whole → G.tells → H.tells
+    → (state_of new).base ≡ (state_of old).base → Adds old new added
+    → LeavesOnly moment_in images_in (stores_of old).1 (stores_of new).1
+    (λ c. IsFirstPart (state_in (stores_of old).1).pairs
+    (into (state_of old).base.access.second_puts added)
+    (told_as (state_of old).base.second.generation c))
+
+-- a crash leaves lists of pairs that pass a test
+abbrev pub Keeps : {S R : Type 0} {G : Ghosts S} {H : Ghosts R} → Relay S R G H → Relay S R G H
+    → (List Pair → Bool) → Type 0
+Keeps old new test = Leaves moment_of left_of old new
+    (λ image. Says (λ pairs. IsTrue (test pairs)) (says (state_of old).base image))
+
+-- then what it leaves of the local device goes on behind the first pairs of its store so that it passes
+-- the test behind those of the relay
+abbrev pub LocalKeeps : {S R : Type 0} (G : Ghosts S) (H : Ghosts R) → Type 0
+LocalKeeps {S = S} {R = R} G H = (old new : Relay S R G H) (test : List Pair → Bool)
+    → (t : G.tells) (u : H.tells) → (state_of new).base ≡ (state_of old).base → Keeps old new test
+    → LeavesOnly moment_in images_in (stores_of old).0 (stores_of new).0
+    (λ c. GoesOn (state_of old).base.access.local_puts (first_pairs (state_of old).base t u)
+    ((state_of old).base.local.first t) (λ pairs. IsTrue (test pairs))
+    (told_as (state_of old).base.local.generation c))
+
+abbrev pub SecondKeeps : {S R : Type 0} (G : Ghosts S) (H : Ghosts R) → Type 0
+SecondKeeps {S = S} {R = R} G H = (old new : Relay S R G H) (test : List Pair → Bool)
+    → (t : G.tells) (u : H.tells) → (state_of new).base ≡ (state_of old).base → Keeps old new test
+    → LeavesOnly moment_in images_in (stores_of old).1 (stores_of new).1
+    (λ c. GoesOn (state_of old).base.access.second_puts (first_pairs (state_of old).base t u)
+    ((state_of old).base.second.first u) (λ pairs. IsTrue (test pairs))
+    (told_as (state_of old).base.second.generation c))
+
+-- of texts there is no room for a pair exactly where its frames pass that of a store that is put into
+abbrev pub FullLaw : {S R : Type 0} (G : Ghosts S) (H : Ghosts R) → Type 0
+FullLaw {S = S} {R = R} G H = (r : Relay S R G H) (pair : Pair) → AreTexts pair
+    → stores r (pair ∷ []) ≡ Full ∷ []
+    ↔ (Passes r.access.local_puts (space_of r.local) pair
+    ⊎ Passes r.access.second_puts (space_of r.second) pair)

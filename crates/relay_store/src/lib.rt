@@ -24,13 +24,16 @@
 //!
 //! `specs/` says when stores serve an access (`Access`), what a store that may be missing is (`Stores`, `Parts`), what the
 //! two have behind their first pairs (`Behind`, `Agree`), which pairs are put (`Puts`), what a relay is to its callers
-//! (`Relays`), what its calls leave (`Calls`, `Rests`), and what its images say of each device (`Laws`).
+//! (`Relays`), what its calls leave (`Calls`, `Rests`), and what its images say of each device (`Laws`), which
+//! [`device_law`] and [`full_law`] tell their callers.
 #![tactic(auto)]
 
 mod cache;
+mod laws;
 mod part;
 mod put;
 mod relay;
 mod room;
 
+pub use laws::{device_law, full_law};
 pub use relay::{LOCAL, Relay, SECOND};
