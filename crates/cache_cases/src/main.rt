@@ -1,6 +1,6 @@
 //! Compares what caches over several stores answer with the wanted answers of cases, and prints a
-//! line a section: two stores behind one (`relays`), and a store written anew into a spare one
-//! (`compactions`).
+//! line a section: two stores behind one (`relays`), a store written anew into a spare one
+//! (`compactions`), and a file that several runs use (`turns`).
 //!
 //! The cases stand in the current folder, or in the one that is named as the one argument.
 #![tactic(auto)]
@@ -11,6 +11,7 @@ mod cuts;
 mod pairs;
 mod parts;
 mod relays;
+mod turns;
 mod untold;
 
 use anyhow::Result;
@@ -23,5 +24,6 @@ fn main(rt: HostRuntime) -> Result<()> {
         None => String::from_str(rt.alloc(), ".")?,
     };
     print_section(&rt, folder.as_str(), "relays", relays::answer)?;
-    print_section(&rt, folder.as_str(), "compactions", compactions::answer)
+    print_section(&rt, folder.as_str(), "compactions", compactions::answer)?;
+    print_section(&rt, folder.as_str(), "turns", turns::answer)
 }

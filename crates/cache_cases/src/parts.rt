@@ -105,3 +105,11 @@ pub fn shown(alloc: Global, first: Value, artifact: &Artifact) -> Result<Value> 
     }
     Ok(Value::Array(values))
 }
+/// The numbers of that name, none where it is missing.
+pub fn numbers(alloc: Global, case: &Value, name: &str) -> Result<Vec<u64>> {
+    let mut numbers = Vec::new(alloc);
+    for value in inputs::list(case, name)? {
+        numbers.push(value.as_u64().context("a number is wanted")?)?;
+    }
+    Ok(numbers)
+}
