@@ -1,4 +1,5 @@
 // Which pairs of a store are kept.
+ghost use Rattle.sha2.specs.Sha256.{sha256};
 ghost use Rattle.std.specs.Prelude.{◌≡◌, ◌<◌, ◌≤◌, ◌+◌, [], length, bytes_eq, All, IsTrue, IfOk};
 ghost use Rattle.std.specs.Prelude.{IfErr, OnOk};
 ghost use Rattle.rel_path.specs.Causes.{Counts};
@@ -95,23 +96,26 @@ fn pick<S: StoreDevice>(
     let Some(_) = Artifact::read(alloc, value.as_slice())? else {
         return Ok(());
     };
-    if is_picked(alloc, from, picks, key.as_slice())? {
+    let print = Sha256::digest(key.as_slice());
+    if is_picked(alloc, from, picks, key.as_slice(), &print)? {
         return Ok(());
     }
-    picks.push(number, Sha256::digest(key.as_slice()))?;
+    picks.push(number, print)?;
     Ok(())
 }
 
-/// Whether a pair that was picked has that key. Of those with its fingerprint the keys are
-/// compared whole.
+/// Whether a pair that was picked has that key, whose fingerprint is given. Of those with the same
+/// one the keys are compared whole.
 fn is_picked<S: StoreDevice>(
     alloc: Global,
     from: &mut Store<S>,
     picks: &Picks,
     key: &[u8],
+    print: &[u8; 32],
 ) -> Result<bool, CacheErr>
     requires whole { IsTrue (state_of from.old).whole }
     requires picks { ArePicks from.old picks.now }
+    requires print { print.now ≡ sha256 key.now }
     ensures value { S.tells → IfOk result (λ b.
         b ≡ has_key key.now (picked (state_of from.old).pairs picks.now.numbers.items)) }
     ensures reads { OnlyReadsStore from.old from.new }
@@ -119,7 +123,7 @@ fn is_picked<S: StoreDevice>(
     ensures cause { Counts is_fault (state_of from.old).faults
         (state_of from.new).faults result }
 {
-    let mut next = picks.prints.last(&Sha256::digest(key));
+    let mut next = picks.prints.last(print);
     while let Some(place) = next {
         let number = picks.numbers[place as usize];
         let same = is_key_of(alloc, from, number, key)?;

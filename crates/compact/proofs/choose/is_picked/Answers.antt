@@ -13,13 +13,13 @@ loop-next-init g c =
     let picks = c.args.picks.now in
     let digests = picks.prints.digests in
     let next = c.last-next.result in
-    let below = next_below digests (length digests) c.digest.result next c.last-next.ensures.greatest c.last-next.ensures.none in
+    let below = next_below digests (length digests) c.args.print.now next c.last-next.ensures.greatest c.last-next.ensures.none in
     record {
       reads = reads_none c.args.from.now;
       faults = refl;
-      inside = next_inside digests (length digests) c.digest.result next below (omega arith);
+      inside = next_inside digests (length digests) c.args.print.now next below (omega arith);
       left = λ told. left_first (state_of c.args.from.now).pairs picks.numbers.items digests c.args.key.now (c.requires.picks.prints told) next (length digests) c.requires.picks.even
-          (subst (λ p. IsNextBelow digests (length digests) p next) c.digest.ensures below);
+          (subst (λ p. IsNextBelow digests (length digests) p next) c.requires.print below);
     }
 
 pub loop-next-smaller : goal.loop-next-smaller
