@@ -28,8 +28,8 @@ use store_dev::StoreDevice;
 impl<S: StoreDevice> Store<S> {
     ghost use Rattle.artifact_store.specs.Store.{frames_of, state_of, OnlyReadsStore};
 
-    /// The bytes at these places of the text of its frames.
-    fn read_at(&mut self, alloc: Global, spans: &[Span]) -> Result<Bytes, CacheErr>
+    /// The bytes at these places of the text of its frames, one behind the other.
+    pub fn read_at(&mut self, alloc: Global, spans: &[Span]) -> Result<Bytes, CacheErr>
         requires { S.tells → AllWithin (text_of (frames_of self.old)) spans.now }
         ensures bytes { S.tells
             → IfOk result (λ bytes. bytes ≡ shown (text_of (frames_of self.old)) spans.now) }
@@ -45,7 +45,7 @@ impl<S: StoreDevice> Store<S> {
 
 impl<S: StoreDevice> Cache for Store<S> {
     ghost use Rattle.artifact_store.specs.Pairs.{told_as};
-    ghost use Rattle.artifact_store.specs.Store.{device_of, frames_of, state_of, moment_of, left_of, cost_of, reads_of, stands, shows, stores};
+    ghost use Rattle.artifact_store.specs.Store.{device_of, frames_of, lengths_of, state_of, moment_of, left_of, cost_of, reads_of, stands, shows, stores};
     ghost use Rattle.artifact_store.specs.Laws.{images_told};
     ghost use Rattle.artifact_store.specs.Hits.{shown_paths};
 
@@ -141,6 +141,7 @@ impl<S: StoreDevice> Cache for Store<S> {
             → LeavesOnly S.moment S.images_since (device_of self.old) (device_of self.new)
             (IsBeforeOrAll (frames_of self.old)
             (added (state_of self.old).room (frames_of self.old) (new_pairs pairs.now))) }
+        ensures foresees { lengths_of self.new ≡ lengths_of self.old }
         ensures pairs { S.tells → AllAfter result (state_of self.old).pairs
             (chosen (new_pairs pairs.now) (stores self.old (new_pairs pairs.now)))
             (state_of self.new).pairs }

@@ -1,10 +1,29 @@
 //! A cache in a log: contents once, a record a pair, and the fingerprints of the pairs' keys.
 //!
-//! [`Store`] opens a device as a log and is a [`Cache`](cache_api::Cache) over it. It keeps an index of the pairs
-//! (`pair_index`), so that a look-up reads only pairs that may have its key. A store that rests hands its device back with a
-//! [`StoreMark`], by which it is opened again. `specs/` says which pairs the bytes of a store stand for (`Pairs`), what its
-//! openings answer (`Opened`), what a mark tells (`Marks`), what becomes of pairs that are put (`Outcomes`), what a store is
-//! to its callers (`Store`), when it answers what (`Answers`), and what its images stand for (`Laws`).
+//! [`Store`] opens a device as a log and is a [`Cache`](cache_api::Cache) over it. It keeps an
+//! index of the pairs (`pair_index`), so that a look-up reads only pairs that may have its key. A
+//! store that rests hands its device back with a [`StoreMark`], by which it is opened again. With
+//! an artifact of a log of 3 bytes and no files, and a store that was opened on a device without
+//! bytes:
+//!
+//! ```text
+//! store.find(alloc, b"key", &outs)        // None
+//! store.put(alloc, b"key", &artifact)     // the device has 107 bytes
+//! store.find(alloc, b"key", &outs)        // the artifact
+//! store.find(alloc, b"k", &outs)          // None
+//! store.count()                           // 1
+//! ```
+//!
+//! An opening that fails hands the device back with an [`OpenErr`]: `NotAStore` for more than
+//! nine bytes that don't begin as a store does, `Damaged` with the offset, counted from 0, of the
+//! kind of a frame that is none, `Failed` where the device failed, or `OutOfMemory`. The errors
+//! of the other calls are those of a cache; `whole` tells whether the store may be used still.
+//! `free` is in bytes, and a store grows to at most 2^40 of them.
+//!
+//! `specs/` says which pairs the bytes of a store stand for (`Pairs`), what its openings answer
+//! (`Opened`), what a mark tells (`Marks`), what becomes of pairs that are put (`Outcomes`), what
+//! a store is to its callers (`Store`), when it answers what (`Answers`), and what its images
+//! stand for (`Laws`).
 #![tactic(auto)]
 
 mod cache;

@@ -53,6 +53,7 @@ impl<S: StoreDevice> Store<S> {
         ensures spans { S.tells → IfOk result (λ o. IfSome o (λ hit.
             (state_of self.new).probes + span_count hit
             ≤ (state_of self.old).probes + cost_seen self.old seen.now (key_text key.entry))) }
+        ensures store { OnlyReadsStore self.old self.new }
         ensures images { OnlyReads S.content S.images S.moment S.images_since
             (device_of self.old) (device_of self.new) }
         ensures reads { CacheReads S.tells state_of cost_of stands shows moment_of left_of told_as

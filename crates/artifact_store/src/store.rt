@@ -84,6 +84,13 @@ impl<S: StoreDevice> Store<S> {
         self.log.room()
     }
 
+    /// How often its frames have been read since it was opened, at most the greatest `u64`.
+    pub fn probes(&self) -> u64
+        ensures { result ≡ (state_of self.now).probes }
+    {
+        self.log.probes()
+    }
+
     /// How many pairs there are.
     pub fn count(&self) -> u64
         ensures count { result ≡ count_in self.now }

@@ -1,10 +1,31 @@
 //! What a cache of task results is: a list of pairs, a key and the text of an artifact each.
 //!
-//! An [`Artifact`] is what a task left, its log and the files that it owns. [`Cache`] is the trait over which runs are
-//! proved: where the last useful pair stands (a [`Hit`]), reading it file by file, adding pairs, and what a crash at any
-//! moment may leave of them. `specs/` defines the text of an artifact (`Artifacts`), how bytes are read as one
-//! (`Reading`), what a look-up finds (`Found`), what is said of hits (`Hits`), the clock (`Moments`), and what the calls
-//! of a cache leave and answer (`Pairs`, `Cache`).
+//! An [`Artifact`] is what a task left: its log, and the files that it owns with their paths. Its
+//! text ([`Artifact::text`]) has strings behind their lengths and lists behind their counts. A
+//! number has four bytes, the least first. The log `l` with the files `a/b` (one byte, `x`) and
+//! `a-b` (no bytes) is 32 bytes:
+//!
+//! ```text
+//! 01000000 l                  the log
+//! 02000000                    two files
+//! 03000000 a/b 01000000 x     a path, and the bytes of its file
+//! 03000000 a-b 00000000       paths ascend component by component
+//! ```
+//!
+//! [`Artifact::read`] answers `None` exactly where bytes are no such text, as with a byte behind
+//! it or with paths that don't ascend. [`Artifact::text`] answers `OutOfMemory` for a string or
+//! list of 2^32 or more bytes or members.
+//!
+//! [`Cache`] is the trait over which runs are proved. `find` answers the artifact of the last
+//! pair with that key whose value is an artifact all of whose files the task owns, `lookup` where
+//! that stands (a [`Hit`]), and both `None` without such a pair. `put` adds a pair behind the
+//! others. Errors are [`CacheErr`]: `Full` where a single pair does not fit (the pairs are as
+//! before), `Failed` where a device failed, and `OutOfMemory`. After the last two the cache may
+//! have to be opened again.
+//!
+//! `specs/` defines the text of an artifact (`Artifacts`), how bytes are read as one (`Reading`),
+//! what a look-up finds (`Found`), what is said of hits (`Hits`), the clock (`Moments`), and what
+//! the calls of a cache leave and answer (`Pairs`, `Cache`).
 #![tactic(auto)]
 
 mod artifact;

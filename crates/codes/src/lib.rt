@@ -1,8 +1,23 @@
 //! Numbers, byte strings and lists of them as bytes, and back.
 //!
-//! A number is a `u32` in little-endian order, or a `u64` in what is called long. A byte string stands behind its length,
-//! and a list behind the count of its elements. The writers add to a buffer, and the readers take from the front of a
-//! slice and hand out the rest.
+//! A number is a `u32` in little-endian order, or a `u64` in what is called long. A byte string
+//! stands behind its length, and a list behind the count of its elements (`list` in `specs/`,
+//! which has no call of its own). The writers add to a buffer, and the readers take from the front
+//! of a slice and hand out the rest. With bytes as hexadecimal digits:
+//!
+//! ```text
+//! put_word(67305985)         01 02 03 04
+//! put_long_word(67305985)    01 02 03 04 00 00 00 00
+//! put_str("hi")              02 00 00 00 68 69
+//! the list of "hi" alone     01 00 00 00 02 00 00 00 68 69
+//! str_at(02 00 00 00 68 69 21)    `hi`, and the rest 21
+//! str_at(02 00 00 00 68)          None: one of two bytes is there
+//! word_at(21)                     None: fewer than four bytes
+//! ```
+//!
+//! Lengths are in bytes, counts in elements. `put_str` takes fewer than 2^32 bytes. A reader
+//! answers `None` where no whole value stands at the front. A writer fails for want of memory
+//! alone, and never where the buffer has the room. After an error the buffer is as before.
 #![tactic(auto)]
 
 ghost use Rattle.std.specs.Prelude.{◌≡◌, ◌+◌, ◌<◌, ◌≤◌, ◌^◌, ◌++◌, length, OnOk, OnErr, IsOk, vec_len, vec_capacity};

@@ -1,8 +1,24 @@
 //! The text of a glob: its faults, and the alternatives that it writes.
 //!
-//! A text is read in steps, each a list that contracts define: characters with their quotes (`specs/Marks`), tokens
-//! and classes (`specs/Tokens`), pieces between and in braces (`specs/Pieces`), alternatives, and the parts of each
-//! (`specs/Parts`). Every step takes time in the length of its list.
+//! The steps of reading are lists in `specs/`: characters with quotes (`Marks`), tokens and
+//! classes (`Tokens`), pieces in and between braces (`Pieces`), parts of alternatives (`Parts`).
+//!
+//! ```text
+//! *             any run of characters of one component, also none
+//! ?             one character
+//! [!a-c]        one character that is not `a` to `c`; without `!`, one that is
+//! src/**        `**` as a whole component: any number of components, also none
+//! {a,b/c}/d     the alternatives `a/d` and `b/c/d`
+//! \*            the character `*`
+//! éé[a/b]       `OpenClass` at 2: the class meets a `/` or the end
+//! é{a,b         `OpenBrace` at 1: no `}` follows
+//! {a,{b}        `Nested` at 3: braces in braces
+//! a/../b        `Climbs` at 2: a component is `..`
+//! ```
+//!
+//! A place counts characters of the text from 0, or from the `start` that the caller gives. `Wide`
+//! comes at the `{` with which there are more than 256 alternatives. Of several faults the one
+//! with the least place is answered, and `OutOfMemory` may come at any call that takes memory.
 #![tactic(auto)]
 
 mod atom;

@@ -1,7 +1,16 @@
 //! Small tables of names, each with the kind of its value and its place.
 //!
-//! A table of the rows `cache` (a flag), `outputs` (texts) and so on finds the row of a name, or
-//! `None`. No two rows have one name.
+//! A [`Row`] has a name, what the name takes ([`Kind`]), and the place that its value goes to, a
+//! number up to 255. Several names may share a place. [`KeyTable`] finds the row of a name:
+//!
+//! ```text
+//! let table = KeyTable::new([key_row!("dependsOn", Words, 0), key_row!("cache", Flag, 6)]);
+//! table.find("cache")        Some: the row `cache`, a `Flag`, with the place 6
+//! table.find("depends")      None: a name has to be there whole
+//! table.find("dependson")    None: names are compared byte by byte
+//! ```
+//!
+//! No two rows may have one name, which `new` requires. No call takes memory or has an error.
 #![tactic(auto)]
 
 mod row;

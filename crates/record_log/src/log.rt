@@ -161,8 +161,8 @@ impl<S: StoreDevice> Log<S> {
         (self.mark, self.device)
     }
 
-    /// Whether the log may be appended to. It is so from its opening until an append fails, after which the store is to be
-    /// opened again.
+    /// Whether the log may be appended to. It is so from its opening until an append answers `Failed`, after which the store
+    /// is to be opened again.
     pub fn whole(&self) -> bool
         ensures { result ≡ is_whole self.now }
     {
@@ -186,6 +186,13 @@ impl<S: StoreDevice> Log<S> {
             → result ≡ store_limit - ends (frames_in self.now) }
     {
         MAX_STORE_BYTES.saturating_sub(self.mark.end + 1)
+    }
+
+    /// How often its frames have been read by number or by place since it was opened, at most the greatest `u64`.
+    pub fn probes(&self) -> u64
+        ensures { result ≡ probes_of self.now }
+    {
+        self.probes
     }
 
     /// The generation of the frames: the number in the last frame of that kind, or 0 without one.
