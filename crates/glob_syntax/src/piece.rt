@@ -1,5 +1,6 @@
 // The pieces of a glob: what stands between braces, and the parts in them.
 ghost use Rattle.std.specs.Prelude.{◌≡◌, ◌∷◌, ◌++◌, [], IfOk, OnOk, false};
+ghost use Rattle.glob_syntax.specs.Braces.{has_close};
 ghost use Rattle.glob_syntax.specs.Pieces.{seen, pieces_of};
 
 use crate::braces::has_close;
@@ -83,6 +84,14 @@ impl<'a> Piece<'a> {
     }
 }
 
+/// Whether a `}` comes. `closes` is false only where none comes, so that many `{` without one are not each looked behind.
+fn comes_close(closes: bool, behind: &[Token]) -> bool
+    requires { closes ≡ false → has_close behind.now ≡ false }
+    ensures { result ≡ has_close behind.now }
+{
+    closes && has_close(behind)
+}
+
 /// The pieces of a glob.
 pub(crate) fn read_pieces<'a>(
     alloc: Global,
@@ -92,6 +101,7 @@ pub(crate) fn read_pieces<'a>(
 {
     let mut pieces = Vec::new(alloc);
     let mut inside = false;
+    let mut closes = true;
     let mut parts = Vec::new(alloc);
     let mut part = Tokens::new(alloc);
     let mut rest = tokens;
@@ -108,12 +118,17 @@ pub(crate) fn read_pieces<'a>(
                 parts = Vec::new(alloc);
                 part = Tokens::new(alloc);
             }
-            Sign::Open if !inside && has_close(behind) => {
-                parts.push(part)?;
-                pieces.push(Piece { parts })?;
-                inside = true;
-                parts = Vec::new(alloc);
-                part = Tokens::new(alloc);
+            Sign::Open if !inside => {
+                closes = comes_close(closes, behind);
+                if closes {
+                    parts.push(part)?;
+                    pieces.push(Piece { parts })?;
+                    inside = true;
+                    parts = Vec::new(alloc);
+                    part = Tokens::new(alloc);
+                } else {
+                    part.push(token)?;
+                }
             }
             _ => part.push(token)?,
         }
