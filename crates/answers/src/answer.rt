@@ -10,7 +10,8 @@ pub enum Answer {
     /// What was asked for was done. The status is 0 where no task failed, else the greatest status
     /// of a failed task.
     Done { status: u8 },
-    /// Nothing was started and nothing changed. The reason is all that was printed.
+    /// Nothing was started, and the reason is all that was printed. Nothing changed, but that pruning
+    /// which is refused for a file that is too large leaves those in front of it.
     Refused(Refusal),
     /// A file could not be read, written or removed.
     TreeFault,

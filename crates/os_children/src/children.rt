@@ -102,7 +102,9 @@ where
         if refused.error.raw_os_error() != Some(TOO_MANY_OPEN) {
             return Err(told_of_start(rt, &refused.command, refused.error));
         }
-        self.close_one(rt, alloc)?;
+        if let Err(error) = self.close_one(rt, alloc) {
+            return Err(told_of_start(rt, &refused.command, error));
+        }
         match self.try_start(rt, alloc, refused.command, shell) {
             Ok(()) => Ok(()),
             Err(refused) => Err(told_of_start(rt, &refused.command, refused.error)),

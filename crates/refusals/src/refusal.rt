@@ -9,7 +9,8 @@ use manifest::ManifestErr;
 use rel_path::{RelPath, Text};
 use turbo_config::{ConfigErr, TaskId, TaskIds};
 
-/// Why a command line is refused. Nothing was started then, and nothing changed.
+/// Why a command line is refused. Nothing was started then, and nothing changed; but pruning that is refused for a file
+/// that is too large leaves those that it wrote in front of it.
 #[derive(Debug, Drop)]
 pub enum Refusal {
     /// The words are no order.

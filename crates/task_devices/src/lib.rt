@@ -1,6 +1,24 @@
-//! What is done to the devices of a run for one task: its files are removed, put back or taken, its
-//! log file is written, its command started and waited for, and its result looked up in the cache or
-//! kept there. Each fault is answered as that of its device.
+//! What is done to the devices of a run for one task: its files are removed, put back or taken,
+//! its log file is written, its command started and waited for, and its result looked up in the
+//! cache or kept there. For a task that the cache lacks the calls come in this order:
+//!
+//! ```text
+//! look_up(alloc, key, outs, cache)?                         None
+//! clear_owned(alloc, plan, 0, world)?                       the files that it owns are gone
+//! start(alloc, command, world)?
+//! wait(alloc, world)?                                       Ended { place: 0, status: 0, log }
+//! keep_log(alloc, plan, 0, log, world)?                     packages/ui/.turbo/turbo-build.log
+//! keep(alloc, plan, &ended, true, key, world, cache)?       Note::Stored
+//! ```
+//!
+//! Where it was found, [`put_back`] puts its files in place and answers its log. Tasks are named
+//! by their places in the plan, counted from 0. [`keep`] answers by a note why a result was not
+//! put: a file over the plan's limit in bytes, a path that another task declares too, or a full
+//! store.
+//!
+//! Each fault is answered as that of its device: `TreeFault` of files, `StoreFault` of the cache,
+//! `StartFault` of a command that could not be started or waited for, `SinkFault` of the output.
+//! `OutOfMemory` may come at any time.
 #![tactic(auto)]
 
 mod commands;

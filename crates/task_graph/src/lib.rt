@@ -1,13 +1,27 @@
-//! The task graph: which tasks a run has, what each depends on, and the order in which they are planned (Turborepo,
-//! "Package and Task Graphs").
+//! The task graph: which tasks a run has, what each depends on, and the order in which they are
+//! planned (Turborepo, "Package and Task Graphs").
 //!
-//! With `"build": {"dependsOn": ["^build"]}`, and `web` depending on `ui`, the graph of `build` has
-//! `ui#build` and `web#build`, the second standing on the first. `^t` stands for the task `t` of the
-//! packages that the owner depends on, `t` for that of the same owner, `x#t` for that of `x`.
+//! In `dependsOn` the text `^t` stands for the task `t` of the packages that the owner depends on,
+//! `t` for that of the same owner, `x#t` for that of `x`. [`expand`] finds the tasks of some names
+//! and all that these stand on; [`Graph`] sorts them: of the tasks whose dependencies are placed
+//! the least comes next. With `"build": {"dependsOn": ["^build"]}`, and of the packages `a`, `b`,
+//! `c` and `d` let `a` depend on `b` and `d` on `c`. Then the graph of `build` has this plan:
 //!
-//! [`expand`] finds the tasks of some names and all that these stand on; [`Graph`] sorts them: of the
-//! tasks whose dependencies are placed the least comes next. `GraphErr` names a word or a text that
-//! stands for no task, and a cycle with its tasks in order.
+//! ```text
+//! place   task       depends on
+//! 0       b#build
+//! 1       a#build    0
+//! 2       c#build
+//! 3       d#build    2
+//! ```
+//!
+//! Places count from 0 in the order of the plan, and a task has a higher one than those that it
+//! depends on.
+//!
+//! `expand` fails with `NoSuchTask` for the first word that names nothing, and with
+//! `NoSuchDependency` for a text of `dependsOn` that stands for no task. [`Graph::order`] fails
+//! with `Cycle`: its tasks in order, of which each depends on the next one and the last on the
+//! first. All fail with `OutOfMemory`.
 #![tactic(auto)]
 
 mod cycle;
