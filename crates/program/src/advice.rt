@@ -2,14 +2,22 @@
 use cli_words::WordsErr;
 use os_edge::STORE_PATH;
 use rel_path::Text;
-use turbo_app::{Answer, CACHE_FORM, COMPACT_FORM, Refusal, SAMPLE_FORM, SHARED_FORM};
+use turbo_app::{Answer, CACHE_FORM, COMPACT_FORM, Refusal, SAMPLE_FORM, SHARED_FORM, StoreFile};
 
 /// Says what the page leaves out: that memory was wanting, what to do about a store that is not read, which word was
 /// refused, and what is not built. Whether it could be printed is not answered.
 pub(crate) fn advise<R: Eprint>(rt: &R, words: &[Text], answer: &Answer) {
     match answer {
         Answer::OutOfMemory => say_out_of_memory(rt),
-        Answer::Refused(Refusal::NotAStore | Refusal::Damaged { at: _ }) => {
+        Answer::Refused(
+            Refusal::NotAStore {
+                file: StoreFile::Store,
+            }
+            | Refusal::Damaged {
+                file: StoreFile::Store,
+                at: _,
+            },
+        ) => {
             let _ = eprintln!(rt;
                 "turbo: delete {STORE_PATH}, and the next run begins a new store"
             );

@@ -4,9 +4,25 @@ use Rattle.rel_path.specs.Limits.{count_limit}
 use Rattle.page.specs.Tasks.{path_text, task_name, joined}
 use Rattle.refusals.specs.Faults.{words_fault, manifest_fault, lock_fault, glob_fault, config_fault}
 use Rattle.refusals.specs.declared.refusal.Refusal.{Refusal}
-use Rattle.refusals.specs.declared.refusal.Refusal.TheVariants.{Words, NoManifest, Manifest, Lock, TooDeep, TooMany, Inside, NameTwice, Config, Glob, Filter, NoPackage, NoSuchTask, NoSuchDependency, Cycle, Persistent, LockMissing, TooLarge, TooMuch, NotAStore, Damaged, OutTaken, NotBuilt}
+use Rattle.refusals.specs.declared.refusal.Refusal.TheVariants.{Words, NoManifest, Manifest, Lock, TooDeep, TooMany, Inside, NameTwice, Config, Glob, Filter, NoPackage, NoSuchTask, NoSuchDependency, Cycle, Persistent, LockMissing, TooLarge, TooMuch, NotAStore, Damaged, OutTaken, NoRoom, LastGeneration, NotBuilt}
+use Rattle.refusals.specs.declared.refusal.StoreFile.{StoreFile}
+use Rattle.refusals.specs.declared.refusal.StoreFile.TheVariants as file
 use Rattle.refusals.specs.declared.refusal.DeviceFault.{DeviceFault}
 use Rattle.refusals.specs.declared.refusal.DeviceFault.TheVariants as device
+
+-- what the file of a store is called
+abbrev pub file_word : StoreFile → List ℕ
+file_word file.Store = codes "store"
+file_word file.Spare = codes "spare"
+file_word file.Second = codes "remote"
+file_word file.Shared = codes "shared"
+
+-- what the store in it is called
+abbrev pub store_words : StoreFile → List ℕ
+store_words file.Store = codes "store"
+store_words file.Spare = codes "spare store"
+store_words file.Second = codes "remote store"
+store_words file.Shared = codes "shared store"
 
 abbrev pub refusal_text : Refusal → List ℕ
 refusal_text (Words fault) = codes "words: " ++ words_fault fault
@@ -28,9 +44,11 @@ refusal_text (Persistent task) = codes "persistent task " ++ task_name task
 refusal_text (LockMissing from name) = codes "lock: " ++ (name ++ (codes " not found from " ++ from))
 refusal_text (TooLarge path) = codes "too large: " ++ path_text path
 refusal_text (TooMuch bytes) = codes "inputs too large: " ++ decimal bytes
-refusal_text NotAStore = codes "the store file is no store"
-refusal_text (Damaged at) = codes "the store is damaged at " ++ decimal at
+refusal_text (NotAStore file) = codes "the " ++ (file_word file ++ codes " file is no store")
+refusal_text (Damaged file at) = codes "the " ++ (store_words file ++ (codes " is damaged at " ++ decimal at))
 refusal_text (OutTaken path) = codes "already there: " ++ path_text path
+refusal_text (NoRoom need free) = codes "no room: " ++ (decimal need ++ (codes " needed, " ++ (decimal free ++ codes " free")))
+refusal_text LastGeneration = codes "last generation"
 refusal_text (NotBuilt form) = codes "not built: form " ++ decimal form
 
 abbrev pub line_of : List ℕ → List ℕ

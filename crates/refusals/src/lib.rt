@@ -9,7 +9,7 @@
 //! NoSuchTask { name: test }                 turbo: no task test
 //! Words(Twice { at: 2 })                    turbo: words: Twice 2
 //! Cycle { tasks: [a#build, b#build] }       turbo: cycle: a#build -> b#build
-//! Damaged { at: 9 }                         turbo: the store is damaged at 9
+//! Damaged { file: Spare, at: 9 }            turbo: the spare store is damaged at 9
 //! Store                                     turbo: the store failed
 //! ```
 //!
@@ -28,6 +28,6 @@ mod refusal;
 mod refusal_text;
 mod stop;
 
-pub use refusal::{DeviceFault, Refusal, device_fault_text};
+pub use refusal::{DeviceFault, Refusal, StoreFile, device_fault_text};
 pub use refusal_text::fault_text;
 pub use stop::Stop;

@@ -90,20 +90,44 @@ pub enum Refusal {
     TooMuch {
         bytes: u64,
     },
-    /// The store file is none.
-    NotAStore,
+    /// The file is no store.
+    NotAStore {
+        file: StoreFile,
+    },
     /// The frame that begins at this byte of the store is broken. Bytes count from 0.
     Damaged {
+        file: StoreFile,
         at: u64,
     },
     /// The folder for a pruned tree is taken.
     OutTaken {
         path: RelPath,
     },
+    /// What is to be kept does not fit into the other store: so many bytes are needed, and so many
+    /// are free.
+    NoRoom {
+        need: u64,
+        free: u64,
+    },
+    /// The store has the last generation that there is.
+    LastGeneration,
     /// The words ask for what is not built yet; each such form has a number.
     NotBuilt {
         form: u8,
     },
+}
+
+/// The file of a store.
+#[derive(Clone, Copy, Debug, PartialEq, Eq)]
+pub enum StoreFile {
+    /// The store of the repository.
+    Store,
+    /// The one into which it is compacted.
+    Spare,
+    /// The second one, which is called remote.
+    Second,
+    /// The one that several runs use.
+    Shared,
 }
 
 /// The device that failed.

@@ -1,10 +1,10 @@
 // The line of each refusal.
 ghost use Rattle.std.specs.Prelude.{◌≡◌, ◌++◌, IfOk, string_bytes, codes, decimal};
-ghost use Rattle.refusals.specs.Refusals.{refusal_text, line_of};
+ghost use Rattle.refusals.specs.Refusals.{refusal_text, file_word, store_words, line_of};
 ghost use Rattle.page.specs.Tasks.{path_text};
 
-use crate::Refusal;
 use crate::faults::{config_fault, glob_fault, lock_fault, manifest_fault, words_fault};
+use crate::{Refusal, StoreFile};
 use page::{joined, task_name};
 use rel_path::limits::MAX_FILES;
 use rel_path::{Bytes, RelPath, Text};
@@ -125,6 +125,51 @@ fn lock_missing(alloc: Global, from: &Text, name: &Text) -> Result<String, Alloc
     Ok(format!(in alloc; "lock: {name} not found from {from}")?)
 }
 
+fn file_word(file: StoreFile) -> &'static str
+    ensures { result.now ≡ file_word file }
+{
+    match file {
+        StoreFile::Store => "store",
+        StoreFile::Spare => "spare",
+        StoreFile::Second => "remote",
+        StoreFile::Shared => "shared",
+    }
+}
+
+fn store_words(file: StoreFile) -> &'static str
+    ensures { result.now ≡ store_words file }
+{
+    match file {
+        StoreFile::Store => "store",
+        StoreFile::Spare => "spare store",
+        StoreFile::Second => "remote store",
+        StoreFile::Shared => "shared store",
+    }
+}
+
+fn no_store(alloc: Global, file: StoreFile) -> Result<String, AllocError>
+    ensures text { IfOk result (λ text. string_bytes text
+        ≡ refusal_text (Refusal.NotAStore file)) }
+{
+    let file = file_word(file);
+    Ok(format!(in alloc; "the {file} file is no store")?)
+}
+
+fn damaged(alloc: Global, file: StoreFile, at: u64) -> Result<String, AllocError>
+    ensures text { IfOk result (λ text. string_bytes text
+        ≡ refusal_text (Refusal.Damaged file at)) }
+{
+    let store = store_words(file);
+    Ok(format!(in alloc; "the {store} is damaged at {at}")?)
+}
+
+fn no_room(alloc: Global, need: u64, free: u64) -> Result<String, AllocError>
+    ensures text { IfOk result (λ text. string_bytes text
+        ≡ refusal_text (Refusal.NoRoom need free)) }
+{
+    Ok(format!(in alloc; "no room: {need} needed, {free} free")?)
+}
+
 fn refusal_text(alloc: Global, refusal: &Refusal) -> Result<String, AllocError>
     ensures text { IfOk result (λ text. string_bytes text ≡ refusal_text refusal.now) }
 {
@@ -166,9 +211,11 @@ fn refusal_text(alloc: Global, refusal: &Refusal) -> Result<String, AllocError>
         Refusal::LockMissing { from, name } => lock_missing(alloc, from, name),
         Refusal::TooLarge { path } => with_path(alloc, "too large: ", path),
         Refusal::TooMuch { bytes } => with_number(alloc, "inputs too large: ", *bytes),
-        Refusal::NotAStore => behind(alloc, "the store file is no store", ""),
-        Refusal::Damaged { at } => with_number(alloc, "the store is damaged at ", *at),
+        Refusal::NotAStore { file } => no_store(alloc, *file),
+        Refusal::Damaged { file, at } => damaged(alloc, *file, *at),
         Refusal::OutTaken { path } => with_path(alloc, "already there: ", path),
+        Refusal::NoRoom { need, free } => no_room(alloc, *need, *free),
+        Refusal::LastGeneration => behind(alloc, "last generation", ""),
         Refusal::NotBuilt { form } => with_number(alloc, "not built: form ", u64::from(*form)),
     }
 }

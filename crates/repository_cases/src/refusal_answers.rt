@@ -7,7 +7,7 @@ use glob_syntax::GlobErr;
 use json_view::Shape;
 use lock_entries::LockErr;
 use manifest::ManifestErr;
-use refusals::Refusal;
+use refusals::{Refusal, StoreFile};
 use rel_path::Text;
 use serde_json::Value;
 use std::alloc::Global;
@@ -193,6 +193,35 @@ fn task_refusal(alloc: Global, case: &Value, kind: &str) -> Result<Refusal> {
     }
 }
 
+fn store_file(word: &str) -> Result<StoreFile> {
+    match word {
+        "store" => Ok(StoreFile::Store),
+        "spare" => Ok(StoreFile::Spare),
+        "second" => Ok(StoreFile::Second),
+        "shared" => Ok(StoreFile::Shared),
+        _ => bail!("no such file: {word}"),
+    }
+}
+
+// Refusals of stores.
+fn store_refusal(case: &Value, kind: &str) -> Result<Refusal> {
+    if kind == "NoRoom" {
+        return Ok(Refusal::NoRoom {
+            need: inputs::number(case, "need")?,
+            free: inputs::number(case, "free")?,
+        });
+    }
+    let file = store_file(inputs::text(case, "file")?)?;
+    match kind {
+        "NotAStore" => Ok(Refusal::NotAStore { file }),
+        "Damaged" => Ok(Refusal::Damaged {
+            file,
+            at: inputs::number(case, "at")?,
+        }),
+        _ => bail!("no such refusal: {kind}"),
+    }
+}
+
 // Refusals that stand alone, or hold a number.
 fn plain_refusal(alloc: Global, case: &Value, kind: &str) -> Result<Refusal> {
     match kind {
@@ -200,17 +229,15 @@ fn plain_refusal(alloc: Global, case: &Value, kind: &str) -> Result<Refusal> {
         "Lock" => Ok(Refusal::Lock(lock_fault(alloc, case)?)),
         "NoManifest" => Ok(Refusal::NoManifest),
         "TooMany" => Ok(Refusal::TooMany),
-        "NotAStore" => Ok(Refusal::NotAStore),
+        "LastGeneration" => Ok(Refusal::LastGeneration),
         "TooMuch" => Ok(Refusal::TooMuch {
             bytes: inputs::number(case, "bytes")?,
-        }),
-        "Damaged" => Ok(Refusal::Damaged {
-            at: inputs::number(case, "at")?,
         }),
         "Inside" => Ok(Refusal::Inside {
             outer: inputs::path(alloc, case, "outer")?,
             inner: inputs::path(alloc, case, "inner")?,
         }),
+        "NotAStore" | "Damaged" | "NoRoom" => store_refusal(case, kind),
         _ => task_refusal(alloc, case, kind),
     }
 }

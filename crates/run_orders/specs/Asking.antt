@@ -9,6 +9,7 @@ use Rattle.cli_words.specs.declared.order.RunOrder.{RunOrder}
 use Rattle.cli_words.specs.declared.order.Access.{Access}
 use Rattle.refusals.specs.declared.refusal.Refusal.{Refusal}
 use Rattle.refusals.specs.declared.refusal.Refusal.TheVariants as refusal
+use Rattle.refusals.specs.declared.refusal.StoreFile.TheVariants.{Store}
 use Rattle.run_plan.specs.declared.plan.Plan.{Plan}
 use Rattle.plan_laws.specs.Laws.{AsksFor}
 use Rattle.answers.specs.declared.answer.Answer.{Answer}
@@ -16,8 +17,8 @@ use Rattle.answers.specs.Answers.{IsNothingBut}
 use Rattle.run_orders.specs.declared.unbuilt.TheConstants.{CACHE_FORM, SHARED_FORM}
 
 abbrev pub store_refusal : Fault → Refusal
-store_refusal NotAStore = refusal.NotAStore
-store_refusal (Damaged at) = refusal.Damaged at
+store_refusal NotAStore = refusal.NotAStore Store
+store_refusal (Damaged at) = refusal.Damaged Store at
 
 -- there is a plan, and the bytes of the store are none
 pub record HasBadStore (order : RunOrder) (env : List (List ℕ × List ℕ)) (files : FileMap) (stored : List ℕ) (reason : Refusal) : Type 0 where

@@ -7,6 +7,7 @@ use Rattle.refusals.specs.declared.stop.Stop.TheVariants.{Refused, Failed, OutOf
 use Rattle.cli_words.specs.declared.order.RunOrder.{RunOrder}
 use Rattle.refusals.specs.declared.refusal.Refusal.{Refusal}
 use Rattle.refusals.specs.declared.refusal.Refusal.TheVariants as refusal
+use Rattle.refusals.specs.declared.refusal.StoreFile.TheVariants.{Store}
 use Rattle.record_log.specs.Frames.{Fault, reading}
 use Rattle.artifact_store.specs.declared.error.OpenErr.{OpenErr}
 use Rattle.artifact_store.specs.declared.error.OpenErr.TheVariants as opening
@@ -44,7 +45,7 @@ pub record IsNoStore (stored : List ℕ) (reason : Refusal) : Type 0 where
 
 -- the refusal of a device that was not opened as a store
 abbrev pub IsStoreRefusal : OpenErr → Refusal → Type 0
-IsStoreRefusal opening.NotAStore reason = reason ≡ refusal.NotAStore
-IsStoreRefusal (opening.Damaged at) reason = reason ≡ refusal.Damaged at
+IsStoreRefusal opening.NotAStore reason = reason ≡ refusal.NotAStore Store
+IsStoreRefusal (opening.Damaged at) reason = reason ≡ refusal.Damaged Store at
 IsStoreRefusal opening.Failed reason = ⊥
 IsStoreRefusal opening.OutOfMemory reason = ⊥

@@ -31,7 +31,7 @@ use answers::{Answer, refuse, tell};
 use artifact_store::{OpenErr, Store};
 use cache_api::Cache;
 use record_log::Unopened;
-use refusals::{DeviceFault, Refusal};
+use refusals::{DeviceFault, Refusal, StoreFile};
 use run_plan::Plan;
 use spawn_dev::Spawner;
 use std::alloc::Global;
@@ -108,9 +108,10 @@ fn unopened<K: Sink>(alloc: Global, fault: OpenErr, out: &mut K) -> Answer
         → HasCauseIn (counts_of tree before start (K.faults out.old))
         (counts_of tree after start (K.faults out.new)) result }
 {
+    let file = StoreFile::Store;
     match fault {
-        OpenErr::NotAStore => refuse(alloc, Refusal::NotAStore, out),
-        OpenErr::Damaged { at } => refuse(alloc, Refusal::Damaged { at }, out),
+        OpenErr::NotAStore => refuse(alloc, Refusal::NotAStore { file }, out),
+        OpenErr::Damaged { at } => refuse(alloc, Refusal::Damaged { file, at }, out),
         OpenErr::Failed => {
             tell(alloc, DeviceFault::Store, out);
             Answer::StoreFault

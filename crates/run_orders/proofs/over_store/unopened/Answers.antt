@@ -3,6 +3,7 @@ use Rattle.std.proofs.Common.{refl, sym, subst}
 use Rattle.rel_path.specs.Causes.{Counts}
 use Rattle.artifact_store.specs.Answers.{is_fault, raised}
 use Rattle.refusals.specs.declared.refusal.Refusal.TheVariants.{NotAStore, Damaged}
+use Rattle.refusals.specs.declared.refusal.StoreFile.TheVariants.{Store}
 use Rattle.answers.specs.Answers.{HasCauseIn, counts_of}
 use Rattle.answers.specs.Facts.{if_fault, cuts_as, cut_early}
 use Rattle.run_orders.proofs.over_store.unopened.Goals as goal
@@ -19,8 +20,8 @@ returns-in-Damaged-clause-cause g c = λ tree start before after counts.
 
 pub returns-in-NotAStore-clause-stopped : goal.returns-in-NotAStore-clause-stopped
 returns-in-NotAStore-clause-stopped g c heard =
-    if_fault c.refuse.result _ _ (λ cause line cut. cut_early _ _ _ cause line (cuts_as _ NotAStore (rw c.in-NotAStore.is refl) _ _ cause cut)) (c.refuse.ensures.cut heard)
+    if_fault c.refuse.result _ _ (λ cause line cut. cut_early _ _ _ cause line (cuts_as _ (NotAStore Store) (rw c.in-NotAStore.is refl) _ _ cause cut)) (c.refuse.ensures.cut heard)
 
 pub returns-in-Damaged-clause-stopped : goal.returns-in-Damaged-clause-stopped
 returns-in-Damaged-clause-stopped g c heard =
-    if_fault c.refuse-in-Damaged.result _ _ (λ cause line cut. cut_early _ _ _ cause line (cuts_as _ (Damaged c.in-Damaged.at) (rw c.in-Damaged.is refl) _ _ cause cut)) (c.refuse-in-Damaged.ensures.cut heard)
+    if_fault c.refuse-in-Damaged.result _ _ (λ cause line cut. cut_early _ _ _ cause line (cuts_as _ (Damaged Store c.in-Damaged.at) (rw c.in-Damaged.is refl) _ _ cause cut)) (c.refuse-in-Damaged.ensures.cut heard)
