@@ -27,11 +27,6 @@ pub further_told : (generation : ℕ) (pairs : List Pair) (c : List ℕ)
     → IsFurther pairs (told_as generation c) → IsFurther pairs (stands_for c)
 further_told generation pairs c (more, told) = (more, told_stands generation c _ told)
 
--- the pairs of the store are further than themselves
-pub further_same : {X : Type 0} (says : X → Option (List Pair)) (pairs : List Pair) (image : X)
-    → says image ≡ Some pairs → IsFurther pairs (says image)
-further_same says pairs image is = ([], is ∙ ap (λ (l : List Pair). Some l) (sym (append-nil pairs)))
-
 pub left_told : (is_dry : Bool) (plan : Plan) (o : Opening) (steps : List Step)
     (generation : ℕ) (c : List ℕ) → IsLeftByRun is_dry plan o steps (told_as generation c)
     → IsLeftByRun is_dry plan o steps (stands_for c)

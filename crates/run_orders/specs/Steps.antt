@@ -11,12 +11,6 @@ use Rattle.refusals.specs.declared.refusal.StoreFile.TheVariants.{Store}
 use Rattle.record_log.specs.Frames.{Fault, reading}
 use Rattle.artifact_store.specs.declared.error.OpenErr.{OpenErr}
 use Rattle.artifact_store.specs.declared.error.OpenErr.TheVariants as opening
-use Rattle.task_devices.specs.declared.error.RunErr.{RunErr}
-use Rattle.task_devices.specs.declared.error.RunErr.TheVariants as run
-use Rattle.answers.specs.declared.answer.Answer.{Answer}
-use Rattle.answers.specs.declared.answer.Answer.TheVariants.{TreeFault, StoreFault, StartFault}
-use Rattle.answers.specs.declared.answer.Answer.TheVariants.{SinkFault}
-use Rattle.answers.specs.declared.answer.Answer.TheVariants as answer
 use Rattle.plan_laws.specs.Laws.{AsksFor}
 use Rattle.run_orders.specs.Asking.{store_refusal}
 
@@ -26,16 +20,6 @@ AsksAs order env files (Ok plan) = AsksFor order env files (Ok plan)
 AsksAs order env files (Err (Refused reason)) = AsksFor order env files (Err reason)
 AsksAs order env files (Err Failed) = Unit {0}
 AsksAs order env files (Err OutOfMemory) = Unit {0}
-
--- ---- a run
-
--- what a run that stopped answers
-abbrev pub answer_of : RunErr → Answer
-answer_of run.TreeFault = TreeFault
-answer_of run.StoreFault = StoreFault
-answer_of run.StartFault = StartFault
-answer_of run.SinkFault = SinkFault
-answer_of run.OutOfMemory = answer.OutOfMemory
 
 -- the bytes of the store are none, for this reason
 pub record IsNoStore (stored : List ℕ) (reason : Refusal) : Type 0 where

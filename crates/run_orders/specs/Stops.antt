@@ -1,38 +1,21 @@
 -- What an order to run leaves that a fault of a device or want of memory ended.
 use Rattle.std.specs.Prelude.{◌≡◌, ◌⊎◌, ℕ, Bool, true, false, List, Some, Ok}
-use Rattle.rel_path.specs.Files.{FileMap}
 use Rattle.listing.specs.KeyText.{Fits}
 use Rattle.cache_api.specs.Pairs.{Pair}
 use Rattle.artifact_store.specs.Pairs.{stands_for}
-use Rattle.spawn_dev.specs.declared.command.Step.{Step}
 use Rattle.cli_words.specs.declared.order.RunOrder.{RunOrder}
 use Rattle.refusals.specs.declared.refusal.Refusal.{Refusal}
 use Rattle.run_laws.specs.Effects.{Book}
 use Rattle.run_laws.specs.Keys.{IsStorable}
 use Rattle.run_laws.specs.Pairs.{IsGood}
 use Rattle.run_plan.specs.declared.plan.Plan.{Plan}
-use Rattle.run_plan.specs.Answers as plans
-use Rattle.run_plan.specs.Answers.{Cause, is_output}
-use Rattle.run_plan.specs.DryPages.{IsTornDry}
-use Rattle.run_plan.specs.Openings.{Opening}
+use Rattle.run_plan.specs.Answers.{Cause}
 use Rattle.plan_laws.specs.Laws.{AsksFor}
 use Rattle.answers.specs.Moments.{Moment}
-use Rattle.answers.specs.Stops.{PrintsSome, StopsEarly}
+use Rattle.answers.specs.Stops.{StopsEarly}
+use Rattle.cache_runs.specs.Stops.{StopsOver, StopsDry}
 use Rattle.run_orders.specs.Outcomes.{opening_at}
 use Rattle.run_orders.specs.Steps.{IsNoStore}
-
--- the run has stopped and left this, and behind its page it has printed some first part of the line
-abbrev pub StopsOver : Plan → Opening → FileMap → List Pair → ℕ → List Step → Type 0
-    → List ℕ → List ℕ → Cause → List ℕ → Type 0
-StopsOver plan o files pairs room steps Heard before after cause line =
-    (printed : List ℕ) × plans.Stopped plan o files pairs room steps cause Heard before printed
-    × PrintsSome line printed after
-
--- the torn page of a dry run, and some first part of the line
-abbrev pub StopsDry : Plan → List Pair → List ℕ → List ℕ → Cause → List ℕ → Type 0
-StopsDry plan pairs before after cause line =
-    (printed : List ℕ) × IsTornDry plan pairs (is_output cause) before printed
-    × PrintsSome line printed after
 
 -- What a run of the plan, dry or not, leaves that stopped. Where commands do what the book says, no
 -- text is too long and the pairs tell the truth, a run that is not dry leaves what `Stopped` of a

@@ -26,10 +26,10 @@ ghost use Rattle.run_orders.specs.Steps.{IsNoStore, IsStoreRefusal};
 ghost use Rattle.answers.specs.Stops.{IfFault, StopsEarly};
 ghost use Rattle.run_orders.specs.Stops.{StopsRun, StopsPlan};
 
-use crate::over_cache::run_over;
 use answers::{Answer, refuse, tell};
 use artifact_store::{OpenErr, Store};
 use cache_api::Cache;
+use cache_runs::run_over;
 use record_log::Unopened;
 use refusals::{DeviceFault, Refusal, StoreFile};
 use run_plan::Plan;

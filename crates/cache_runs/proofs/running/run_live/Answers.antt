@@ -3,7 +3,7 @@ use Rattle.std.proofs.Common.{sym, subst}
 use Rattle.run_plan.specs.Answers.{Stopped}
 use Rattle.runner.specs.Answers.{opening_of}
 use Rattle.answers.specs.Facts.{if_fault}
-use Rattle.run_orders.proofs.over_cache.run_live.Goals as goal
+use Rattle.cache_runs.proofs.running.run_live.Goals as goal
 
 pub returns-in-Err-clause-stopped : goal.returns-in-Err-clause-stopped
 returns-in-Err-clause-stopped g c told store heard ready =

@@ -1,7 +1,7 @@
 -- A dry run leaves the pairs as they are.
 use Rattle.cache_api.specs.Moments.{leaves_more}
-use Rattle.run_orders.proofs.Left.{further_same}
-use Rattle.run_orders.proofs.over_cache.run_over.Goals as goal
+use Rattle.cache_runs.proofs.Further.{further_same}
+use Rattle.cache_runs.proofs.running.run_over.Goals as goal
 
 pub returns-then-is_dry-clause-cause : goal.returns-then-is_dry-clause-cause
 returns-then-is_dry-clause-cause g c = c.run_dry.ensures.cause (g.W.Tree.state c.args.world.now).faults (g.W.Spawner.runs c.args.world.now).faults

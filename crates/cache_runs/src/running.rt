@@ -10,9 +10,9 @@ ghost use Rattle.run_plan.specs.Openings.{setting_of, HoldsInputs};
 ghost use Rattle.run_plan.specs.Plans.{IsValidPlan};
 ghost use Rattle.runner.specs.Answers.{LeavesFurther, LeavesSafe, cause_of, opening_of};
 ghost use Rattle.answers.specs.Answers.{IfDone, IfRefused, HasCauseIn, counts_at, counts_of};
-ghost use Rattle.run_orders.specs.Steps.{answer_of};
+ghost use Rattle.cache_runs.specs.Steps.{answer_of};
 ghost use Rattle.answers.specs.Stops.{IfFault, PrintsSome};
-ghost use Rattle.run_orders.specs.Stops.{StopsDry, StopsOver};
+ghost use Rattle.cache_runs.specs.Stops.{StopsDry, StopsOver};
 
 use answers::{Answer, tell};
 use cache_api::Cache;
@@ -142,8 +142,9 @@ fn run_dry<C: Cache, K: Sink>(alloc: Global, plan: &Plan, cache: &mut C, out: &m
     }
 }
 
-/// Runs the plan over a cache, or says what a run would do.
-pub(crate) fn run_over<W: Spawner, C: Cache, K: Sink>(
+/// Runs the plan over a cache, or says what a run would do, and answers as the program does. The page is printed as it
+/// comes. After a fault its line is tried once, and after want of memory nothing more is printed.
+pub fn run_over<W: Spawner, C: Cache, K: Sink>(
     alloc: Global,
     is_dry: bool,
     plan: &Plan,
