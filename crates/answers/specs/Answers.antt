@@ -94,3 +94,19 @@ IsNoFault StoreFault = ⊥
 IsNoFault StartFault = ⊥
 IsNoFault SinkFault = ⊥
 IsNoFault OutOfMemory = ⊤
+
+-- it came to its end, or memory was wanting
+abbrev pub IsDoneOrMemory : Answer → Type 0
+IsDoneOrMemory (Done status) = ⊤
+IsDoneOrMemory (Refused refusal) = ⊥
+IsDoneOrMemory TreeFault = ⊥
+IsDoneOrMemory StoreFault = ⊥
+IsDoneOrMemory StartFault = ⊥
+IsDoneOrMemory SinkFault = ⊥
+IsDoneOrMemory OutOfMemory = ⊤
+
+-- where no count rose and nothing is a reason to refuse, the call comes to its end, or memory is
+-- wanting
+abbrev pub Completes : FaultCounts → FaultCounts → (Refusal → Type 0) → Answer → Type 0
+Completes old new Reason answer =
+    IsQuiet old new → ((reason : Refusal) → Reason reason → ⊥) → IsDoneOrMemory answer

@@ -11,7 +11,8 @@ use Rattle.run_plan.specs.Answers.{Cause}
 use Rattle.run_plan.specs.Answers.Cause.{Device, Output, Memory}
 use Rattle.answers.specs.declared.answer.Answer.{Answer}
 use Rattle.answers.specs.declared.answer.Answer.TheVariants.{Done, Refused, TreeFault, StoreFault, StartFault, SinkFault, OutOfMemory}
-use Rattle.answers.specs.Answers.{FaultCounts, HasCauseIn, IfDone, IfRefused, IsNoFault, IsNothingBut, IsQuiet}
+use Rattle.answers.specs.Answers.{FaultCounts, HasCauseIn, IfDone, IfRefused, IsNoFault}
+use Rattle.answers.specs.Answers.{IsNothingBut, IsQuiet, IsDoneOrMemory, Completes}
 use Rattle.answers.specs.Stops.{IfFault, PrintsSome, CutsText, CutsRefusal, StopsEarly}
 
 -- ---- answers
@@ -47,6 +48,22 @@ no_fault old new StoreFault h quiet = absurd (omega (arith, h.0, quiet.store.0, 
 no_fault old new StartFault h quiet = absurd (omega (arith, h.0, quiet.start.0, quiet.start.1))
 no_fault old new SinkFault h quiet = absurd (omega (arith, h.0, quiet.sink.0, quiet.sink.1))
 no_fault old new OutOfMemory h quiet = tt
+
+-- where no fault and no refusal is answered, it came to its end, or memory was wanting
+done_or_memory : (answer : Answer) (Reason : Refusal → Type 0) → IsNoFault answer
+    → IfRefused answer Reason → ((reason : Refusal) → Reason reason → ⊥) → IsDoneOrMemory answer
+done_or_memory (Done status) Reason quiet refused none = tt
+done_or_memory (Refused reason) Reason quiet refused none = none reason refused
+done_or_memory TreeFault Reason quiet refused none = quiet
+done_or_memory StoreFault Reason quiet refused none = quiet
+done_or_memory StartFault Reason quiet refused none = quiet
+done_or_memory SinkFault Reason quiet refused none = quiet
+done_or_memory OutOfMemory Reason quiet refused none = tt
+
+pub completes : (old new : FaultCounts) (answer : Answer) (Reason : Refusal → Type 0)
+    → HasCauseIn old new answer → IfRefused answer Reason → Completes old new Reason answer
+completes old new answer Reason cause refused quiet none =
+    done_or_memory answer Reason (no_fault old new answer cause quiet) refused none
 
 -- ---- what was printed
 
