@@ -2,4 +2,3 @@ pub mod Answers
 pub mod Moments
 pub mod Stops
 pub mod Facts
-pub mod Both
