@@ -1,0 +1,3 @@
+pub mod Repository
+pub mod Changes
+pub mod Worlds
