@@ -6,4 +6,5 @@ mod Fitting
 mod Relays
 mod Filled
 mod Putting
+mod Devices
 mod Turn

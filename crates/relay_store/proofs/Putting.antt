@@ -1,5 +1,7 @@
 -- Calls that put pairs, one after another.
-use Rattle.std.proofs.Common.{◌≡◌, ℕ, zero, suc, ◌+◌, ◌≤◌, Bool, true, false, List, [], ◌∷◌, ◌++◌, length, take, drop, Option, Some, Ok, Err, refl, sym, ◌∙◌, ap, subst, arith, append_assoc, length-append}
+use Rattle.std.proofs.Common.{◌≡◌, ℕ, zero, suc, ◌+◌, ◌≤◌, Bool, true, false, List, [], ◌∷◌, ◌++◌}
+use Rattle.std.proofs.Common.{length, take, drop, Option, Some, Ok, Err, refl, sym, ◌∙◌, ap, subst}
+use Rattle.std.proofs.Common.{arith, append_assoc, length-append}
 use Rattle.std.specs.Prelude.{◌&&◌, ◌||◌, IsTrue, Result, IfOk, IfErr, OnOk, OnErr}
 use Rattle.std.proofs.lemmas.List.{append-nil, take_all, take_at, take-append-le, drop-append-le}
 use Rattle.std.proofs.lemmas.Bool.{and_parts}
@@ -18,14 +20,16 @@ use Rattle.relay_store.specs.declared.relay.Relay.{Relay}
 use Rattle.relay_store.specs.Stores.{state_in}
 use Rattle.relay_store.specs.Parts.{first_of, more_of, pairs_of, IsRead, into, MayGrow}
 use Rattle.relay_store.specs.Agree.{firsts, later, Agree, Leads}
-use Rattle.relay_store.specs.Relays.{RelayBase, first_pairs, says, says_by, IsNotedBy, base_of, state_of, stands, shows, later_of, moment_of, left_of}
+use Rattle.relay_store.specs.Relays.{RelayBase, first_pairs, says, says_by, IsNotedBy, base_of}
+use Rattle.relay_store.specs.Relays.{state_of, stands, shows, later_of, moment_of, left_of}
 use Rattle.relay_store.specs.Calls.{IsPutting}
-use Rattle.relay_store.specs.Rests.{OnlyNow, parted, noted_all, later_local, later_second, rests, local_says, second_says}
+use Rattle.relay_store.specs.Rests.{OnlyNow, parted, noted_all, later_local, later_second, rests}
+use Rattle.relay_store.specs.Rests.{local_says, second_says}
 use Rattle.relay_store.proofs.Relays.{relay_leaves, relay_hits, relay_keeps}
 
 -- ---- lists
 
-first_more : (before x y : List Pair) (told : Option (List Pair)) → IsFirstPart before x told
+pub first_more : (before x y : List Pair) (told : Option (List Pair)) → IsFirstPart before x told
     → IsFirstPart before (x ++ y) told
 first_more before x y told (n, le, is) = (
   n,
@@ -33,13 +37,14 @@ first_more before x y told (n, le, is) = (
   is ∙ ap (λ (l : List Pair). Some (before ++ l)) (sym (take-append-le n x y le)),
 )
 
-take_both : (x y : List Pair) (n : ℕ) → take (length x + n) (x ++ y) ≡ x ++ take n y
+pub take_both : {A : Type 0} (x y : List A) (n : ℕ)
+    → take (length x + n) (x ++ y) ≡ x ++ take n y
 take_both [] y n = let same : 0 + n ≡ n = omega arith in ap (λ (k : ℕ). take k y) same
-take_both (p ∷ x) y n =
+take_both {A = A} (p ∷ x) y n =
     let same : suc (length x) + n ≡ suc (length x + n) = omega arith in
-    ap (λ (k : ℕ). take k (p ∷ (x ++ y))) same ∙ ap (λ (l : List Pair). p ∷ l) (take_both x y n)
+    ap (λ (k : ℕ). take k (p ∷ (x ++ y))) same ∙ ap (λ (l : List A). p ∷ l) (take_both x y n)
 
-first_then : (before mid x y : List Pair) (told : Option (List Pair)) → mid ≡ before ++ x
+pub first_then : (before mid x y : List Pair) (told : Option (List Pair)) → mid ≡ before ++ x
     → IsFirstPart mid y told → IsFirstPart before (x ++ y) told
 first_then before mid x y told same (n, le, is) = (
   length x + n,
@@ -49,22 +54,25 @@ first_then before mid x y told same (n, le, is) = (
       ∙ ap (λ (l : List Pair). before ++ l) (sym (take_both x y n))),
 )
 
-both_ok : {U : Type 0} (s : Result U CacheErr) (a b d x y : List Pair) → b ≡ a ++ x
+pub both_ok : {U : Type 0} (s : Result U CacheErr) (a b d x y : List Pair) → b ≡ a ++ x
     → OnOk s (d ≡ b ++ y) → OnOk s (d ≡ a ++ (x ++ y))
 both_ok (Ok v) a b d x y first is = is ∙ ap (λ (l : List Pair). l ++ y) first ∙ append_assoc a x y
 both_ok (Err e) a b d x y first is = tt
 
-whole_ok : {U : Type 0} (s : Result U CacheErr) (a b d : Bool) → b ≡ a → OnOk s (d ≡ b) → OnOk s (d ≡ a)
+whole_ok : {U : Type 0} (s : Result U CacheErr) (a b d : Bool) → b ≡ a → OnOk s (d ≡ b)
+    → OnOk s (d ≡ a)
 whole_ok (Ok v) a b d first is = is ∙ first
 whole_ok (Err e) a b d first is = tt
 
 module _ {S R : Type 0} {G : Ghosts S} {H : Ghosts R} where
   -- ---- one and then another
 
-  pub putting_then : {T U : Type 0} (a b d : Relay S R G H) (x y : List Pair) (v : T) (s : Result U CacheErr)
+  pub putting_then : {T U : Type 0} (a b d : Relay S R G H) (x y : List Pair) (v : T)
+      (s : Result U CacheErr)
       → IsPutting a b x (Ok v) → IsPutting b d y s → IsPutting a d (x ++ y) s
   putting_then a b d x y v s p q = record {
-    pairs = λ told. both_ok s (state_of a).pairs (state_of b).pairs (state_of d).pairs x y (p.pairs told) (q.pairs told);
+    pairs = λ told. both_ok s (state_of a).pairs (state_of b).pairs (state_of d).pairs x y
+        (p.pairs told) (q.pairs told);
     grown = λ told.
         let (m, is) = p.grown told in
         let (n, at) = q.grown told in
@@ -75,8 +83,10 @@ module _ {S R : Type 0} {G : Ghosts S} {H : Ghosts R} where
         (λ image. IsFirstPart (state_of a).pairs (x ++ y) (says (base_of a) image))
         (p.left told) (q.left told)
         (λ image is. first_more (state_of a).pairs x y (says (base_of a) image) is)
-        (λ image is. subst (λ (base : RelayBase G.tells H.tells). IsFirstPart (state_of a).pairs (x ++ y) (says base image)) p.keeps.base
-        (first_then (state_of a).pairs (state_of b).pairs x y (says (base_of b) image) (p.pairs told) is));
+        (λ image is. subst (λ (base : RelayBase G.tells H.tells). IsFirstPart (state_of a).pairs
+        (x ++ y) (says base image)) p.keeps.base
+        (first_then (state_of a).pairs (state_of b).pairs x y (says (base_of b) image)
+        (p.pairs told) is));
     hits = stay_then (G.tells × H.tells) stands shows a b d p.hits q.hits;
     keeps = keeps_then (state_of a) (state_of b) (state_of d) p.keeps q.keeps;
     whole = whole_ok s (state_of a).whole (state_of b).whole (state_of d).whole p.whole q.whole;
@@ -89,9 +99,12 @@ module _ {S R : Type 0} {G : Ghosts S} {H : Ghosts R} where
   pub putting_as : {T : Type 0} (a b : Relay S R G H) (x y : List Pair) (r : Result T CacheErr)
       → (G.tells × H.tells → x ≡ y) → IsPutting a b x r → IsPutting a b y r
   putting_as a b x y r same p = record {
-    pairs = λ told. subst (λ (l : List Pair). OnOk r ((state_of b).pairs ≡ (state_of a).pairs ++ l)) (same told) (p.pairs told);
+    pairs = λ told. subst (λ (l : List Pair). OnOk r
+        ((state_of b).pairs ≡ (state_of a).pairs ++ l)) (same told) (p.pairs told);
     grown = p.grown;
-    left = λ told. subst (λ (l : List Pair). Leaves moment_of left_of a b (λ image. IsFirstPart (state_of a).pairs l (says (base_of a) image))) (same told) (p.left told);
+    left = λ told. subst (λ (l : List Pair). Leaves moment_of left_of a b
+        (λ image. IsFirstPart (state_of a).pairs l (says (base_of a) image))) (same told)
+        (p.left told);
     hits = p.hits;
     keeps = p.keeps;
     whole = p.whole;
@@ -144,12 +157,14 @@ module _ {S R : Type 0} {G : Ghosts S} {H : Ghosts R} where
 
   -- ---- before the first
 
-  pub putting_none : {T : Type 0} (a : Relay S R G H) (v : T) → OnlyNow G → OnlyNow H → IsTrue (state_of a).whole
+  pub putting_none : {T : Type 0} (a : Relay S R G H) (v : T) → OnlyNow G → OnlyNow H
+      → IsTrue (state_of a).whole
       → IsPutting a a [] (Ok v)
   putting_none a v only also whole = record {
     pairs = λ told. sym (append-nil (state_of a).pairs);
     grown = λ told. ([], sym (append-nil (later_of a)));
-    left = λ told. started moment_of left_of a (λ image. IsFirstPart (state_of a).pairs [] (says (base_of a) image))
+    left = λ told. started moment_of left_of a
+        (λ image. IsFirstPart (state_of a).pairs [] (says (base_of a) image))
         (λ image left. (
           0,
           omega arith,
@@ -166,19 +181,25 @@ module _ {S R : Type 0} {G : Ghosts S} {H : Ghosts R} where
   -- ---- of the two stores
 
   -- where both were only read
-  pub putting_read : {T : Type 0} (old new : Relay S R G H) (r : Result T CacheErr) → new.access ≡ old.access
-      → new.added ≡ old.added → IsTrue old.whole → IsRead old.local new.local → IsRead old.second new.second
+  pub putting_read : {T : Type 0} (old new : Relay S R G H) (r : Result T CacheErr)
+      → new.access ≡ old.access
+      → new.added ≡ old.added → IsTrue old.whole → IsRead old.local new.local
+      → IsRead old.second new.second
       → OnOk r ((state_of new).whole ≡ (state_of old).whole) → IfErr r IsFindErr
       → Counts is_fault (state_of old).faults (state_of new).faults r → IsPutting old new [] r
   putting_read old new r access added whole xl xs stays answers cause =
       let keeps = relay_keeps old new access xl.reads.keeps xs.reads.keeps in
       record {
         pairs = λ told. same_ok r (state_of old).pairs (state_of new).pairs (λ i.
-            firsts (access i).local_puts (take (xl.first i) (xl.reads.pairs told.0 i)) (take (xs.first i) (xs.reads.pairs told.1 i))
-            ++ take (added i) (later (access i).local_puts (drop (xl.first i) (xl.reads.pairs told.0 i)) (drop (xs.first i) (xs.reads.pairs told.1 i))));
+            firsts (access i).local_puts (take (xl.first i) (xl.reads.pairs told.0 i))
+            (take (xs.first i) (xs.reads.pairs told.1 i))
+            ++ take (added i) (later (access i).local_puts
+            (drop (xl.first i) (xl.reads.pairs told.0 i))
+            (drop (xs.first i) (xs.reads.pairs told.1 i))));
         grown = λ told. (
           [],
-          (λ i. later (access i).local_puts (drop (xl.first i) (xl.reads.pairs told.0 i)) (drop (xs.first i) (xs.reads.pairs told.1 i)))
+          (λ i. later (access i).local_puts (drop (xl.first i) (xl.reads.pairs told.0 i))
+              (drop (xs.first i) (xs.reads.pairs told.1 i)))
               ∙ sym (append-nil (later_of old)),
         );
         left = λ told. relay_leaves old new
@@ -186,8 +207,10 @@ module _ {S R : Type 0} {G : Ghosts S} {H : Ghosts R} where
             (λ c. told_as (state_in old.second.store).base c ≡ Some (pairs_of old.second))
             (λ image. IsFirstPart (state_of old).pairs [] (says (base_of old) image))
             keeps.base (xl.reads.left told.0) (xs.reads.left told.1)
-            (λ t u c noted is. none_more (local_says old whole t u (told_as (state_in old.local.store).base c) is noted))
-            (λ t u c noted is. none_more (second_says old whole t u (told_as (state_in old.second.store).base c) is noted));
+            (λ t u c noted is. none_more
+            (local_says old whole t u (told_as (state_in old.local.store).base c) is noted))
+            (λ t u c noted is. none_more
+            (second_says old whole t u (told_as (state_in old.second.store).base c) is noted));
         hits = relay_hits old new xl.reads.hits xs.reads.hits;
         keeps = keeps;
         whole = stays;
@@ -195,12 +218,15 @@ module _ {S R : Type 0} {G : Ghosts S} {H : Ghosts R} where
         cause = cause;
       }
     where
-      same_ok : {T : Type 0} (r : Result T CacheErr) (a b : List Pair) → b ≡ a → OnOk r (b ≡ a ++ [])
+      same_ok : {T : Type 0} (r : Result T CacheErr) (a b : List Pair) → b ≡ a
+          → OnOk r (b ≡ a ++ [])
       same_ok (Ok v) a b is = is ∙ sym (append-nil a)
       same_ok (Err e) a b is = tt
 
-      none_more : {pairs : List Pair} {told : Option (List Pair)} → told ≡ Some pairs → IsFirstPart pairs [] told
-      none_more {pairs = pairs} is = (0, omega arith, is ∙ ap (λ (l : List Pair). Some l) (sym (append-nil pairs)))
+      none_more : {pairs : List Pair} {told : Option (List Pair)} → told ≡ Some pairs
+          → IsFirstPart pairs [] told
+      none_more {pairs = pairs} is =
+          (0, omega arith, is ∙ ap (λ (l : List Pair). Some l) (sym (append-nil pairs)))
 
 -- ---- pairs that were put into both
 
@@ -219,7 +245,8 @@ says_grown true all first more pairs news told (n, le, is) none ends noted = (
   noted_all true all first (more ++ take n news) (pairs ++ take n news) told
       (is ∙ ap (λ (l : List Pair). Some l) (append_assoc first more (take n news)))
       (λ other. absurd (cc))
-      (λ puts. sym (append_assoc all more (take n news)) ∙ ap (λ (l : List Pair). l ++ take n news) (ends refl))
+      (λ puts. sym (append_assoc all more (take n news))
+      ∙ ap (λ (l : List Pair). l ++ take n news) (ends refl))
       noted,
 )
 says_grown false all first more pairs news told (n, le, is) none ends noted =
@@ -243,7 +270,8 @@ ok_three (Err e) to a b c = tt
 -- ---- what stands behind the first pairs
 
 pub more_grown : {S : Type 0} {G : Ghosts S} (old new : Part S G) (more : List Pair) → G.tells
-    → new.first ≡ old.first → pairs_of new ≡ pairs_of old ++ more → more_of new ≡ more_of old ++ more
+    → new.first ≡ old.first → pairs_of new ≡ pairs_of old ++ more → more_of new ≡ more_of old
+    ++ more
 more_grown old new more told first is =
     (λ i. drop (first i) (is i)) ∙ drop-append-le old.first (pairs_of old) more (old.few told)
 
@@ -265,17 +293,20 @@ module _ {S R : Type 0} {G : Ghosts S} {H : Ghosts R} (old new : Relay S R G H) 
       ≡ firsts old.access.local_puts (first_of old.local) (first_of old.second)
   first_same same t u = ap (λ (base : RelayBase G.tells H.tells). first_pairs base t u) same
 
-  counted : (r : Relay S R G H) → IsTrue r.whole → G.tells → H.tells → take r.added (later_of r) ≡ later_of r
+  counted : (r : Relay S R G H) → IsTrue r.whole → G.tells → H.tells
+      → take r.added (later_of r) ≡ later_of r
   counted r whole t u = take_all r.added (later_of r) (omega (arith, (r.agrees whole t u).counted))
 
   -- where no more are counted, the pairs are as before
   pub unchanged : {T : Type 0} (added : List Pair) (r : Result T CacheErr) → IsTrue old.whole
       → IsPutting old new added r → G.tells → H.tells
-      → firsts new.access.local_puts (first_of new.local) (first_of new.second) ++ take old.added (later_of new)
+      → firsts new.access.local_puts (first_of new.local) (first_of new.second) ++ take old.added
+      (later_of new)
       ≡ (state_of old).pairs
   unchanged added r whole p t u =
       let (more, is) = p.grown (t, u) in
-      let few : old.added ≤ length (later_of old) = omega (arith, (old.agrees whole t u).counted) in
+      let few : old.added ≤ length (later_of old) = omega
+      (arith, (old.agrees whole t u).counted) in
       let later_same : take old.added (later_of new) ≡ take old.added (later_of old) =
       ap (take old.added) is ∙ take-append-le old.added (later_of old) more few in
       λ i. first_same p.keeps.base t u i ++ later_same i
@@ -290,7 +321,8 @@ module _ {S R : Type 0} {G : Ghosts S} {H : Ghosts R} (old new : Relay S R G H) 
     later_grown t u =
         let (m, le, is) = l.grown.pairs t in
         let (n, few, at) = s.grown.pairs u in
-        let (more, both) = later_by old.access.local_puts (more_of old.local) (more_of new.local) (more_of old.second) (more_of new.second) _ _
+        let (more, both) = later_by old.access.local_puts (more_of old.local) (more_of new.local)
+        (more_of old.second) (more_of new.second) _ _
         (more_grown old.local new.local _ t l.grown.first is)
         (more_grown old.second new.second _ u s.grown.first at) in
         (more, (λ i. later (access i).local_puts (more_of new.local) (more_of new.second)) ∙ both)
@@ -302,7 +334,8 @@ module _ {S R : Type 0} {G : Ghosts S} {H : Ghosts R} (old new : Relay S R G H) 
     pairs_grown whole t u now is at =
         let all : later_of new ≡ later_of old ++ news =
         (λ i. later (access i).local_puts (more_of new.local) (more_of new.second))
-        ∙ later_all old.access.local_puts old.access.second_puts (more_of old.local) (more_of new.local) (more_of old.second) (more_of new.second) news old.serves.puts
+        ∙ later_all old.access.local_puts old.access.second_puts (more_of old.local)
+        (more_of new.local) (more_of old.second) (more_of new.second) news old.serves.puts
         (more_grown old.local new.local _ t l.grown.first is)
         (more_grown old.second new.second _ u s.grown.first at) in
         let before = firsts old.access.local_puts (first_of old.local) (first_of old.second) in
@@ -312,28 +345,39 @@ module _ {S R : Type 0} {G : Ghosts S} {H : Ghosts R} (old new : Relay S R G H) 
         ∙ ap (λ (m : List Pair). (before ++ m) ++ news) (sym (counted old whole t u))
 
     pub putting_grown : IsTrue old.whole → OnOk result (IsTrue new.whole) → IfErr result IsFindErr
-        → Counts is_fault (state_of old).faults (state_of new).faults result → IsPutting old new news result
+        → Counts is_fault (state_of old).faults (state_of new).faults result
+        → IsPutting old new news result
     putting_grown whole now answers cause = record {
-      pairs = λ told. ok_three result (pairs_grown whole told.0 told.1) now (l.all told.0) (s.all told.1);
+      pairs = λ told. ok_three result (pairs_grown whole told.0 told.1) now (l.all told.0)
+          (s.all told.1);
       grown = λ told. later_grown told.0 told.1;
       left = λ told. relay_leaves old new
-          (λ c. IsFirstPart (pairs_of old.local) (into old.access.local_puts news) (told_as (state_in old.local.store).base c))
-          (λ c. IsFirstPart (pairs_of old.second) (into old.access.second_puts news) (told_as (state_in old.second.store).base c))
+          (λ c. IsFirstPart (pairs_of old.local) (into old.access.local_puts news)
+          (told_as (state_in old.local.store).base c))
+          (λ c. IsFirstPart (pairs_of old.second) (into old.access.second_puts news)
+          (told_as (state_in old.second.store).base c))
           (λ image. IsFirstPart (state_of old).pairs news (says (base_of old) image))
           grown_both.base (l.grown.left told.0) (s.grown.left told.1)
           (λ t u c noted is. let agree = old.agrees whole t u in
-          says_grown old.access.local_puts _ (first_of old.local) (more_of old.local) (state_of old).pairs news (told_as (state_in old.local.store).base c)
-          (subst (λ (m : List Pair). IsFirstPart m (into old.access.local_puts news) (told_as (state_in old.local.store).base c)) (parted old.local) is)
+          says_grown old.access.local_puts _ (first_of old.local) (more_of old.local)
+          (state_of old).pairs news (told_as (state_in old.local.store).base c)
+          (subst (λ (m : List Pair). IsFirstPart m (into old.access.local_puts news)
+          (told_as (state_in old.local.store).base c)) (parted old.local) is)
           agree.local_none
-          (later_local old.access.local_puts _ (more_of old.local) (more_of old.second) old.added agree.counted agree.local_none) noted)
+          (later_local old.access.local_puts _ (more_of old.local) (more_of old.second) old.added
+          agree.counted agree.local_none) noted)
           (λ t u c noted is. let agree = old.agrees whole t u in
-          says_grown old.access.second_puts _ (first_of old.second) (more_of old.second) (state_of old).pairs news (told_as (state_in old.second.store).base c)
-          (subst (λ (m : List Pair). IsFirstPart m (into old.access.second_puts news) (told_as (state_in old.second.store).base c)) (parted old.second) is)
+          says_grown old.access.second_puts _ (first_of old.second) (more_of old.second)
+          (state_of old).pairs news (told_as (state_in old.second.store).base c)
+          (subst (λ (m : List Pair). IsFirstPart m (into old.access.second_puts news)
+          (told_as (state_in old.second.store).base c)) (parted old.second) is)
           agree.second_none
-          (later_second old.access.local_puts old.access.second_puts _ (more_of old.local) (more_of old.second) old.added agree.counted agree.same) noted);
+          (later_second old.access.local_puts old.access.second_puts _ (more_of old.local)
+          (more_of old.second) old.added agree.counted agree.same) noted);
       hits = relay_hits old new l.grown.hits s.grown.hits;
       keeps = grown_both;
-      whole = ok_three result (λ a b c. λ i. (a ∙ sym whole) i && (b i && c i)) now l.whole s.whole;
+      whole = ok_three result (λ a b c. λ i. (a ∙ sym whole) i && (b i && c i)) now l.whole
+          s.whole;
       answers = answers;
       cause = cause;
     }
@@ -346,10 +390,12 @@ ok_whole (Ok v) before now is = is
 ok_whole (Err e) before now is = tt
 
 pub counts_ok : {T U : Type 0} (before now : ℕ) (v : T) (w : U)
-    → Counts {T = T} {E = CacheErr} is_fault before now (Ok v) → Counts {T = U} {E = CacheErr} is_fault before now (Ok w)
+    → Counts {T = T} {E = CacheErr} is_fault before now (Ok v) → Counts {T = U} {E = CacheErr}
+    is_fault before now (Ok w)
 counts_ok before now v w c = record { later = c.later; counted = c.counted }
 
-module _ {S R T : Type 0} {G : Ghosts S} {H : Ghosts R} (old new : Relay S R G H) (r : Result T CacheErr) where
+module _ {S R T : Type 0} {G : Ghosts S} {H : Ghosts R} (old new : Relay S R G H)
+    (r : Result T CacheErr) where
   pub putting_asked : new.access ≡ old.access → new.added ≡ old.added → new.whole ≡ old.whole
       → IsTrue old.whole → IsRead old.local new.local → IsRead old.second new.second
       → OnOk r ((state_in new.local.store).whole ≡ (state_in old.local.store).whole)
@@ -358,7 +404,8 @@ module _ {S R T : Type 0} {G : Ghosts S} {H : Ghosts R} (old new : Relay S R G H
       → IsPutting old new [] r
   putting_asked access added same whole xl xs l s answers cause =
       putting_read old new r access added whole xl xs
-      (ok_three r (λ (a : Unit {0}) b c. λ i. same i && (b i && c i)) (ok_unit r) l s) answers cause
+      (ok_three r (λ (a : Unit {0}) b c. λ i. same i && (b i && c i)) (ok_unit r) l s) answers
+      cause
     where
       ok_unit : (r : Result T CacheErr) → OnOk r (Unit {0})
       ok_unit (Ok v) = tt
@@ -411,7 +458,8 @@ pub counted_false : (b : Bool) (n : ℕ) (local second : List Pair) → b ≡ fa
 counted_false true n local second is x = absurd (cc)
 counted_false false n local second is x = x
 
-pub agree_grown : {S R : Type 0} {G : Ghosts S} {H : Ghosts R} (old : Relay S R G H) (local : Part S G)
+pub agree_grown : {S R : Type 0} {G : Ghosts S} {H : Ghosts R} (old : Relay S R G H)
+    (local : Part S G)
     (second : Part R H) (count : ℕ) (news : List Pair) → IsTrue old.whole → G.tells → H.tells
     → local.first ≡ old.local.first → second.first ≡ old.second.first
     → pairs_of local ≡ pairs_of old.local ++ into old.access.local_puts news
@@ -423,11 +471,14 @@ agree_grown old local second count news whole t u lf sf l s counted =
     let ml = more_grown old.local local _ t lf l in
     let ms = more_grown old.second second _ u sf s in
     record {
-      local_none = λ other. ml ∙ (λ i. agree.local_none other i ++ into_false old.access.local_puts news other i);
-      second_none = λ other. ms ∙ (λ i. agree.second_none other i ++ into_false old.access.second_puts news other i);
+      local_none = λ other. ml ∙ (λ i. agree.local_none other i ++ into_false
+          old.access.local_puts news other i);
+      second_none = λ other. ms ∙ (λ i. agree.second_none other i ++ into_false
+          old.access.second_puts news other i);
       same = λ both.
           let puts = and_parts _ _ both in
           ms ∙ (λ i. agree.same both i ++ into_true old.access.second_puts news puts.1 i)
-          ∙ sym (ml ∙ ap (λ (m : List Pair). more_of old.local ++ m) (into_true old.access.local_puts news puts.0));
+          ∙ sym (ml ∙ ap (λ (m : List Pair). more_of old.local ++ m)
+          (into_true old.access.local_puts news puts.0));
       counted = counted;
     }

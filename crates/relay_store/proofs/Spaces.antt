@@ -1,5 +1,6 @@
 -- The room that is wanting where a pair is not put.
-use Rattle.std.proofs.Common.{◌≡◌, ℕ, ◌+◌, ◌<◌, ◌≤◌, suc, Bool, true, false, cond, List, [], ◌∷◌, ◌++◌, length, map, refl, sym, ◌∙◌, ap, subst, arith, length-append}
+use Rattle.std.proofs.Common.{◌≡◌, ℕ, ◌+◌, ◌<◌, ◌≤◌, suc, Bool, true, false, cond, List, [], ◌∷◌}
+use Rattle.std.proofs.Common.{◌++◌, length, map, refl, sym, ◌∙◌, ap, subst, arith, length-append}
 use Rattle.std.specs.Prelude.{◌&&◌, sum_by}
 use Rattle.std.specs.List.{list_all}
 use Rattle.std.proofs.lemmas.Bool.{and_parts, and_from, le-leb, leb-true, leb-false}
@@ -112,10 +113,14 @@ pub stores_all : (pairs : List Pair) (spaces : List Space)
 stores_all [] spaces each = refl
 stores_all (pair ∷ pairs) spaces each =
     let both : Each (λ space. ample pair + sum_by ample pairs ≤ space.room) spaces =
-    subst (λ n. Each (λ (space : Space). n ≤ space.room) spaces) (sum_cons ample pair pairs) each in
-    let here = takes_all spaces pair (less_each spaces (ample pair + sum_by ample pairs) (ample pair) (omega arith) both) in
-    ap (λ b. cond b (Stored ∷ puts_in (map (filled pair) spaces) pairs) (Full ∷ puts_in spaces pairs)) here
-    ∙ ap (λ (l : List Put). Stored ∷ l) (stores_all pairs (map (filled pair) spaces) (left_each spaces pair (sum_by ample pairs) both))
+    subst (λ n. Each (λ (space : Space). n ≤ space.room) spaces) (sum_cons ample pair pairs)
+    each in
+    let here = takes_all spaces pair
+    (less_each spaces (ample pair + sum_by ample pairs) (ample pair) (omega arith) both) in
+    ap (λ b. cond b (Stored ∷ puts_in (map (filled pair) spaces) pairs)
+    (Full ∷ puts_in spaces pairs)) here
+    ∙ ap (λ (l : List Put). Stored ∷ l)
+    (stores_all pairs (map (filled pair) spaces) (left_each spaces pair (sum_by ample pairs) both))
 
 pub chosen_all : (pairs : List Pair) → chosen pairs (all_stored pairs) ≡ pairs
 chosen_all [] = refl
@@ -129,11 +134,14 @@ stored_by [] [] room taken le same none = refl
 stored_by (p ∷ puts) [] room taken le same none = absurd (omega (arith, same))
 stored_by [] (pair ∷ pairs) room taken le same none = absurd (omega (arith, same))
 stored_by (Stored ∷ puts) (pair ∷ pairs) room taken le same none =
-    let sum : sum_by ample (pair ∷ pairs) ≡ ample pair + sum_by ample pairs = sum_cons ample pair pairs in
+    let sum : sum_by ample (pair ∷ pairs) ≡ ample pair + sum_by ample pairs = sum_cons ample pair
+    pairs in
     ap (λ (l : List Put). Stored ∷ l)
-    (stored_by puts pairs room (taken + ample pair) (omega (arith, le, sum)) (omega (arith, same)) none)
+    (stored_by puts pairs room (taken + ample pair) (omega (arith, le, sum)) (omega (arith, same))
+    none)
 stored_by (Full ∷ puts) (pair ∷ pairs) room taken le same none =
-    let sum : sum_by ample (pair ∷ pairs) ≡ ample pair + sum_by ample pairs = sum_cons ample pair pairs in
+    let sum : sum_by ample (pair ∷ pairs) ≡ ample pair + sum_by ample pairs = sum_cons ample pair
+    pairs in
     absurd (omega (arith, le, none.0, sum))
 
 pub stored_all : (puts : List Put) (pairs : List Pair) (room : ℕ) → sum_by ample pairs ≤ room
@@ -158,11 +166,14 @@ are_put_less room less pairs puts le x =
 -- ---- pairs behind pairs
 
 puts_by : (b : Bool) (spaces : List Space) (pair : Pair) (xs ys : List Pair)
-    → ((others : List Space) → puts_in others (xs ++ ys) ≡ puts_in others xs ++ puts_in (spaces_behind others xs) ys)
-    → cond b (Stored ∷ puts_in (map (filled pair) spaces) (xs ++ ys)) (Full ∷ puts_in spaces (xs ++ ys))
+    → ((others : List Space) → puts_in others (xs ++ ys) ≡ puts_in others xs ++ puts_in
+    (spaces_behind others xs) ys)
+    → cond b (Stored ∷ puts_in (map (filled pair) spaces) (xs ++ ys))
+    (Full ∷ puts_in spaces (xs ++ ys))
     ≡ cond b (Stored ∷ puts_in (map (filled pair) spaces) xs) (Full ∷ puts_in spaces xs)
     ++ puts_in (cond b (spaces_behind (map (filled pair) spaces) xs) (spaces_behind spaces xs)) ys
-puts_by true spaces pair xs ys more = ap (λ (l : List Put). Stored ∷ l) (more (map (filled pair) spaces))
+puts_by true spaces pair xs ys more =
+    ap (λ (l : List Put). Stored ∷ l) (more (map (filled pair) spaces))
 puts_by false spaces pair xs ys more = ap (λ (l : List Put). Full ∷ l) (more spaces)
 
 pub puts_append : (xs ys : List Pair) (spaces : List Space)
@@ -172,9 +183,12 @@ puts_append (pair ∷ xs) ys spaces =
     puts_by (list_all (takes pair) spaces) spaces pair xs ys (λ others. puts_append xs ys others)
 
 spaces_by : (b : Bool) (spaces : List Space) (pair : Pair) (xs ys : List Pair)
-    → ((others : List Space) → spaces_behind others (xs ++ ys) ≡ spaces_behind (spaces_behind others xs) ys)
-    → cond b (spaces_behind (map (filled pair) spaces) (xs ++ ys)) (spaces_behind spaces (xs ++ ys))
-    ≡ spaces_behind (cond b (spaces_behind (map (filled pair) spaces) xs) (spaces_behind spaces xs)) ys
+    → ((others : List Space) → spaces_behind others (xs ++ ys)
+    ≡ spaces_behind (spaces_behind others xs) ys)
+    → cond b (spaces_behind (map (filled pair) spaces) (xs ++ ys))
+    (spaces_behind spaces (xs ++ ys))
+    ≡ spaces_behind (cond b (spaces_behind (map (filled pair) spaces) xs)
+    (spaces_behind spaces xs)) ys
 spaces_by true spaces pair xs ys more = more (map (filled pair) spaces)
 spaces_by false spaces pair xs ys more = more spaces
 
@@ -182,7 +196,8 @@ pub spaces_append : (xs ys : List Pair) (spaces : List Space)
     → spaces_behind spaces (xs ++ ys) ≡ spaces_behind (spaces_behind spaces xs) ys
 spaces_append [] ys spaces = refl
 spaces_append (pair ∷ xs) ys spaces =
-    spaces_by (list_all (takes pair) spaces) spaces pair xs ys (λ others. spaces_append xs ys others)
+    spaces_by (list_all (takes pair) spaces) spaces pair xs ys
+    (λ others. spaces_append xs ys others)
 
 pub chosen_append : (xs ys : List Pair) (p q : List Put) → length p ≡ length xs
     → chosen (xs ++ ys) (p ++ q) ≡ chosen xs p ++ chosen ys q
@@ -198,8 +213,10 @@ none_append : (xs ys : List Pair) (p q : List Put) (room : ℕ) → length p ≡
 none_append [] ys [] q room same a b = b
 none_append [] ys (put ∷ p) q room same a b = absurd (omega (arith, same))
 none_append (x ∷ xs) ys [] q room same a b = absurd (omega (arith, same))
-none_append (x ∷ xs) ys (Stored ∷ p) q room same a b = none_append xs ys p q room (omega (arith, same)) a b
-none_append (x ∷ xs) ys (Full ∷ p) q room same a b = (a.0, none_append xs ys p q room (omega (arith, same)) a.1 b)
+none_append (x ∷ xs) ys (Stored ∷ p) q room same a b =
+    none_append xs ys p q room (omega (arith, same)) a b
+none_append (x ∷ xs) ys (Full ∷ p) q room same a b =
+    (a.0, none_append xs ys p q room (omega (arith, same)) a.1 b)
 
 pub put_append : (xs ys : List Pair) (p q : List Put) (before room : ℕ) → room ≤ before
     → ArePut before xs p → ArePut room ys q → ArePut room (xs ++ ys) (p ++ q)

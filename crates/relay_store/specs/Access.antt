@@ -6,8 +6,8 @@ abbrev pub is_there : {A : Type 0} → Option A → Bool
 is_there None = false
 is_there (Some x) = true
 
--- A store is there exactly where it is read. What is put into is also read, and one at least is put
--- into.
+-- A store is there exactly where it is read. What is put into is also read, and one at least is
+-- put into.
 pub record IsAccessOf {A B : Type 0} (access : Access) (local : Option A) (second : Option B)
     : Type 0 where
   pub local_there : is_there local ≡ access.local_reads

@@ -9,8 +9,8 @@ use Rattle.cache_api.specs.Pairs.{Pair, IsFirstPart}
 use Rattle.relay_store.specs.declared.relay.Relay.{Relay}
 use Rattle.relay_store.specs.Relays.{state_of, stands, shows, later_of, moment_of, left_of, says}
 
--- A call, or calls, that put these pairs, none to all of them, and all where the answer is Ok. What a
--- store has behind its first pairs only grows.
+-- A call, or calls, that put these pairs, none to all of them, and all where the answer is Ok.
+-- What a store has behind its first pairs only grows.
 pub record IsPutting {S R T : Type 0} {G : Ghosts S} {H : Ghosts R} (old new : Relay S R G H)
     (added : List Pair) (result : Result T CacheErr) : Type 0 where
   pub pairs : G.tells × H.tells

@@ -1,5 +1,6 @@
 -- Laws of lists of pairs that begin with some pairs.
-use Rattle.std.proofs.Common.{◌≡◌, ◌≢◌, ◌⊎◌, inl, inr, Bool, true, false, cond, List, [], ◌∷◌, ◌++◌}
+use Rattle.std.proofs.Common.{◌≡◌, ◌≢◌, ◌⊎◌, inl, inr, Bool, true, false, cond, List, [], ◌∷◌}
+use Rattle.std.proofs.Common.{◌++◌}
 use Rattle.std.proofs.Common.{Option, Some, None, refl, sym, ◌∙◌, ap}
 use Rattle.std.proofs.lemmas.Bool.{and_parts}
 use Rattle.std.proofs.lemmas.List.{append-nil}
@@ -43,7 +44,8 @@ in_place_is all first more told is =
 followed_was : (all : List Pair) (o : Option (List Pair)) (pairs : List Pair)
     → followed all o ≡ Some pairs → (more : List Pair) × (o ≡ Some more) × (pairs ≡ all ++ more)
 followed_was all None pairs e = let none : None ≡ Some pairs = e in absurd (cc)
-followed_was all (Some more) pairs e = let same : all ++ more ≡ pairs = cc in (more, refl, sym same)
+followed_was all (Some more) pairs e = let same : all ++ more ≡ pairs =
+    cc in (more, refl, sym same)
 
 pub in_place_was : (all first : List Pair) (told : Option (List Pair)) (pairs : List Pair)
     → in_place all first told ≡ Some pairs

@@ -88,7 +88,8 @@ by_full false true a b pair x y (inr s) = ap (λ c. answer (c && true)) (not_fit
 by_full false false a b pair x y (inl l) = absurd (cc l.0)
 by_full false false a b pair x y (inr s) = absurd (cc s.0)
 
--- For texts there is no room exactly where the frames of the pair pass that of a store that is put into.
+-- For texts there is no room exactly where the frames of the pair pass that of a store that is
+-- put into.
 pub full_is : {S R : Type 0} {G : Ghosts S} {H : Ghosts R} (r : Relay S R G H) (pair : Pair)
     → AreTexts pair → stores r (pair ∷ []) ≡ Full ∷ []
     ↔ (Passes r.access.local_puts (space_of r.local) pair
@@ -104,8 +105,8 @@ full_is r pair texts =
 
 -- ---- each device
 
--- What an image of one of the devices stands for: the first pairs of its store, with others behind them
--- where the relay puts into it. These have P behind the first pairs of the relay.
+-- What an image of one of the devices stands for: the first pairs of its store, with others
+-- behind them where the relay puts into it. These have P behind the first pairs of the relay.
 pub record GoesOn (puts : Bool) (all first : List Pair) (P : List Pair → Type 0)
     (told : Option (List Pair)) : Type 0 where
   pub more : List Pair
@@ -117,7 +118,8 @@ pub record GoesOn (puts : Bool) (all first : List Pair) (P : List Pair → Type 
 abbrev pub Says : (List Pair → Type 0) → Option (List Pair) → Type 0
 Says P told = (pairs : List Pair) × (told ≡ Some pairs) × P pairs
 
-goes_on : (puts : Bool) (all first : List Pair) (P : List Pair → Type 0) (told : Option (List Pair))
+goes_on : (puts : Bool) (all first : List Pair) (P : List Pair → Type 0)
+    (told : Option (List Pair))
     → puts ≡ true → Says P (says_by puts all first told) → GoesOn puts all first P told
 goes_on true all first P told puts (pairs, is, has) =
     let (more, stood, at) = in_place_was all first told pairs is in
@@ -158,8 +160,8 @@ known_by false all first P told was known = ⊎_elim
 module _ {S R : Type 0} {G : Ghosts S} {H : Ghosts R} (old new : Relay S R G H)
     (P : List Pair → Type 0) (t : G.tells) (u : H.tells) (same : base_of new ≡ base_of old)
     (leaves : Leaves moment_of left_of old new (λ image. Says P (says (base_of old) image))) where
-  -- Of the local device: whatever a crash may have left at any moment stands for the first pairs of the
-  -- local store and what the relay put behind them.
+  -- Of the local device: whatever a crash may have left at any moment stands for the first pairs
+  -- of the local store and what the relay put behind them.
   pub local_device : LeavesOnly moment_in images_in old.local.store new.local.store
       (λ c. GoesOn old.access.local_puts (first_pairs (base_of old) t u) (first_of old.local) P
       (told_as (base_of old).local.generation c))
@@ -255,8 +257,8 @@ module _ {S R : Type 0} {G : Ghosts S} {H : Ghosts R} (old new : Relay S R G H)
         (n, le, refl),
       ))
 
-  -- Of the local device: whatever a crash may have left at any moment is a store with the pairs that the
-  -- local one had, and the first of those that were put into it.
+  -- Of the local device: whatever a crash may have left at any moment is a store with the pairs
+  -- that the local one had, and the first of those that were put into it.
   pub local_images : LeavesOnly moment_in images_in old.local.store new.local.store
       (λ c. IsFirstPart (pairs_of old.local) (into old.access.local_puts added)
       (told_as (base_of old).local.generation c))
@@ -318,15 +320,15 @@ module _ {S R : Type 0} {G : Ghosts S} {H : Ghosts R} (r : Relay S R G H) (whole
 
 -- ---- the laws, said of all relays
 
--- between two moments of a relay that may be used at first and keeps its base, a crash leaves its pairs
--- and the first of these
+-- between two moments of a relay that may be used at first and keeps its base, a crash leaves its
+-- pairs and the first of these
 abbrev pub Adds : {S R : Type 0} {G : Ghosts S} {H : Ghosts R} → Relay S R G H → Relay S R G H
     → List Pair → Type 0
 Adds old new added = Leaves moment_of left_of old new
     (λ image. IsFirstPart (state_of old).pairs added (says (state_of old).base image))
 
--- then a crash leaves of the local device the pairs of its store, and the first of these where it is
--- put into
+-- then a crash leaves of the local device the pairs of its store, and the first of these where it
+-- is put into
 abbrev pub LocalAdds : {S R : Type 0} (G : Ghosts S) (H : Ghosts R) → Type 0
 LocalAdds {S = S} {R = R} G H = (old new : Relay S R G H) (added : List Pair)
     → IsTrue (state_of old).whole → G.tells → H.tells
@@ -352,8 +354,8 @@ abbrev pub Keeps : {S R : Type 0} {G : Ghosts S} {H : Ghosts R} → Relay S R G 
 Keeps old new test = Leaves moment_of left_of old new
     (λ image. Says (λ pairs. IsTrue (test pairs)) (says (state_of old).base image))
 
--- then what it leaves of the local device goes on behind the first pairs of its store so that it passes
--- the test behind those of the relay
+-- then what it leaves of the local device goes on behind the first pairs of its store so that it
+-- passes the test behind those of the relay
 abbrev pub LocalKeeps : {S R : Type 0} (G : Ghosts S) (H : Ghosts R) → Type 0
 LocalKeeps {S = S} {R = R} G H = (old new : Relay S R G H) (test : List Pair → Bool)
     → (t : G.tells) (u : H.tells) → (state_of new).base ≡ (state_of old).base → Keeps old new test
@@ -370,7 +372,8 @@ SecondKeeps {S = S} {R = R} G H = (old new : Relay S R G H) (test : List Pair �
     ((state_of old).base.second.first u) (λ pairs. IsTrue (test pairs))
     (told_as (state_of old).base.second.generation c))
 
--- of texts there is no room for a pair exactly where its frames pass that of a store that is put into
+-- of texts there is no room for a pair exactly where its frames pass that of a store that is put
+-- into
 abbrev pub FullLaw : {S R : Type 0} (G : Ghosts S) (H : Ghosts R) → Type 0
 FullLaw {S = S} {R = R} G H = (r : Relay S R G H) (pair : Pair) → AreTexts pair
     → stores r (pair ∷ []) ≡ Full ∷ []

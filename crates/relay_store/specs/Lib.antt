@@ -6,6 +6,7 @@ pub mod Parts
 pub mod Agree
 pub mod Relays
 pub mod Calls
+pub mod Devices
 pub mod Fronts
 pub mod Rests
 pub mod Laws

@@ -30,7 +30,8 @@ first_of part = take part.first (pairs_of part)
 abbrev pub more_of : {S : Type 0} {G : Ghosts S} → Part S G → List Pair
 more_of part = drop part.first (pairs_of part)
 
--- what no call changes: the generation of its frames, and its first pairs where its device tells them
+-- what no call changes: the generation of its frames, and its first pairs where its device tells
+-- them
 pub record PartBase (T : Type 0) : Type 0 where
   pub generation : ℕ
   pub first : T → List Pair

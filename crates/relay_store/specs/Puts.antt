@@ -13,8 +13,9 @@ pub record Space : Type 0 where
   pub room : ℕ
   pub frames : List Entry
 
--- What a pair needs there. For texts, as a program has them, that is the size of its frames, which never
--- is more than is ample (`Laws.need_is`). Of what are no texts no more is said to be needed.
+-- What a pair needs there. For texts, as a program has them, that is the size of its frames,
+-- which never is more than is ample (`Laws.need_is`). Of what are no texts no more is said to be
+-- needed.
 abbrev pub need : Space → Pair → ℕ
 need space pair = min (put_size space.frames pair) (ample pair)
 
@@ -28,8 +29,8 @@ filled pair space = record {
   frames = space.frames ++ put_frames space.frames pair;
 }
 
--- One after another: a pair is stored where it fits behind those that were stored before it, in each of
--- the spaces, and else there is no room for it.
+-- One after another: a pair is stored where it fits behind those that were stored before it, in
+-- each of the spaces, and else there is no room for it.
 abbrev pub puts_in : List Space → List Pair → List Put
 puts_in spaces [] = []
 puts_in spaces (pair ∷ pairs) =

@@ -27,8 +27,8 @@ pub record RelayBase (T U : Type 0) : Type 0 where
   pub local : PartBase T
   pub second : PartBase U
 
--- the first pairs of both stores, where both devices tell them; those of the store that is looked into
--- first stand last
+-- the first pairs of both stores, where both devices tell them; those of the store that is looked
+-- into first stand last
 abbrev pub first_pairs : {T U : Type 0} → RelayBase T U → T → U → List Pair
 first_pairs base t u =
     firsts base.access.local_puts (base.local.first t) (base.second.first u)
@@ -40,8 +40,8 @@ pub data Image (T U : Type 0) : Type 0 where
   Local : T → U → List ℕ → Image T U
   Second : T → U → List ℕ → Image T U
 
--- Where it puts into the store of these bytes: the relay's first pairs, and behind them what the bytes
--- have behind the store's first pairs. Else they say nothing.
+-- Where it puts into the store of these bytes: the relay's first pairs, and behind them what the
+-- bytes have behind the store's first pairs. Else they say nothing.
 abbrev pub says_by : Bool → List Pair → List Pair → Option (List Pair) → Option (List Pair)
 says_by true all first told = in_place all first told
 says_by false all first told = None
@@ -54,8 +54,8 @@ says base (Second t u bytes) =
     says_by base.access.second_puts (first_pairs base t u) (base.second.first u)
     (told_as base.second.generation bytes)
 
--- An image is noted where the relay puts into the store, and of another store only where it does not
--- stand for the store's pairs.
+-- An image is noted where the relay puts into the store, and of another store only where it does
+-- not stand for the store's pairs.
 abbrev pub IsNotedBy : Bool → List Pair → Option (List Pair) → Type 0
 IsNotedBy puts first told = puts ≡ false → told ≢ Some first
 
@@ -85,8 +85,8 @@ module _ {S R : Type 0} {G : Ghosts S} {H : Ghosts R} where
   abbrev pub later_of : Relay S R G H → List Pair
   later_of r = later r.access.local_puts (part.more_of r.local) (part.more_of r.second)
 
-  -- The first pairs of both stores and as many behind them as were counted; where it may be used, these
-  -- are all. It may be used where its stores may and they have the same.
+  -- The first pairs of both stores and as many behind them as were counted; where it may be used,
+  -- these are all. It may be used where its stores may and they have the same.
   abbrev pub state_of : Relay S R G H → CacheState (RelayBase G.tells H.tells)
   state_of r = record {
     pairs = firsts r.access.local_puts (part.first_of r.local) (part.first_of r.second)

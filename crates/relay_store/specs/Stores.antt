@@ -1,4 +1,5 @@
--- A store that may be missing, as its callers see it: one that is missing has no pairs and is whole.
+-- A store that may be missing, as its callers see it: one that is missing has no pairs and is
+-- whole.
 use Rattle.std.specs.Prelude.{ℕ, true, List, [], Option, Some, None}
 use Rattle.store_dev.specs.declared.device.StoreDevice.{Ghosts}
 use Rattle.cache_api.specs.declared.hit.Hit.{Hit}

@@ -71,8 +71,8 @@ impl<S: StoreDevice> Part<S> {
         count_in(&self.store).saturating_sub(self.first)
     }
 
-    /// Where the artifact stands that its pairs give to a task with this key and these outputs. The hit is marked with
-    /// the side.
+    /// Where the artifact stands that its pairs give to a task with this key and these outputs.
+    /// The hit is marked with the side.
     pub(crate) fn lookup(
         &mut self,
         alloc: Global,

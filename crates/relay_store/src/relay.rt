@@ -17,8 +17,9 @@ pub const SECOND: u8 = 1;
 
 /// A cache over two stores, of which one may be missing. It keeps both by value.
 ///
-/// Its pairs are the first pairs of both stores, those of the store that a look-up asks first standing last, and behind
-/// them what it has put. The local store is asked first where it is put into, and else the second one.
+/// Its pairs are the first pairs of both stores, those of the store that a look-up asks first
+/// standing last, and behind them what it has put. The local store is asked first where it is put
+/// into, and else the second one.
 #[derive(Drop)]
 pub struct Relay<S: StoreDevice, R: StoreDevice> {
     pub(crate) local: Part<S>,
@@ -41,8 +42,8 @@ impl<S: StoreDevice, R: StoreDevice> Relay<S, R> {
     ghost use Rattle.relay_store.specs.Relays.{local_more, second_more};
     ghost use Rattle.relay_store.specs.Laws.{GoesOn};
 
-    /// A cache over these stores. A store is there exactly where it is read, what is put into is also read, and one at
-    /// least is put into.
+    /// A cache over these stores. A store is there exactly where it is read, what is put into is
+    /// also read, and one at least is put into.
     pub fn new(local: Option<Store<S>>, second: Option<Store<R>>, access: Access) -> Relay<S, R>
         requires access { IsAccessOf access local second }
         requires local { IsTrue (state_in local).whole }
@@ -78,8 +79,8 @@ impl<S: StoreDevice, R: StoreDevice> Relay<S, R> {
         ensures stores { result ≡ stores_of self }
         ensures whole { IsTrue (state_of self).whole
             → IsTrue (state_in result.0).whole × IsTrue (state_in result.1).whole }
-        // While the relay may be used, a store that is put into has what the relay put behind the store's first pairs, and
-        // no other store has more than those.
+        // While the relay may be used, a store that is put into has what the relay put behind the
+        // store's first pairs, and no other store has more than those.
         ensures local { (t : S.tells) (u : R.tells) → IsTrue (state_of self).whole
             → GoesOn (state_of self).base.access.local_puts
             (first_pairs (state_of self).base t u) ((state_of self).base.local.first t)

@@ -1,5 +1,6 @@
 -- A store that was opened in a device, and into which pairs were put.
-use Rattle.std.proofs.Common.{◌≡◌, inl, inr, ℕ, ◌-◌, ◌≤◌, List, ◌++◌, length, Ok, refl, sym, ◌∙◌, ap, arith, length-append}
+use Rattle.std.proofs.Common.{◌≡◌, inl, inr, ℕ, ◌-◌, ◌≤◌, List, ◌++◌, length, Ok, refl, sym, ◌∙◌}
+use Rattle.std.proofs.Common.{ap, arith, length-append}
 use Rattle.std.specs.Prelude.{IsTrue}
 use Rattle.std.proofs.lemmas.List.{take_all}
 use Rattle.rel_path.specs.Limits.{store_limit}
@@ -22,14 +23,16 @@ use Rattle.shared_runs.specs.Others.{frames_with}
 use Rattle.shared_runs.proofs.MemTurns.{frames_is, sound_is}
 
 -- the room of a store that is whole is what its frames leave
-pub room_is : {D : Type 0} {G : Ghosts D} (s : Store D G) → IsTrue (store.state_of s).whole → G.tells
+pub room_is : {D : Type 0} {G : Ghosts D} (s : Store D G) → IsTrue (store.state_of s).whole
+    → G.tells
     → (store.state_of s).room ≡ store_limit - ends (store.frames_of s)
 room_is s whole told = omega (arith, (s.log.kept whole told).index.end)
 
 module _ {D : Type 0} (G : Ghosts D) (start : D) (only : Only (G.content start) (G.images start))
     (s new : Store D G) (told : G.tells) (lengths : Lengths) (opened : IsOpened start lengths s)
     (news : List Pair)
-    (frames : store.frames_of new ≡ store.frames_of s ++ added (store.state_of s).room (store.frames_of s) news)
+    (frames : store.frames_of new ≡ store.frames_of s ++ added (store.state_of s).room
+    (store.frames_of s) news)
     (images : LeavesOnly G.moment G.images_since (store.device_of s) (store.device_of new)
     (IsBeforeOrAll (store.frames_of s) (added (store.state_of s).room (store.frames_of s) news)))
     (whole : IsTrue (store.state_of new).whole) where
@@ -46,7 +49,8 @@ module _ {D : Type 0} (G : Ghosts D) (start : D) (only : Only (G.content start) 
   read = (opened.opened told).frames
 
   all_is : es ++ added (store.state_of s).room es news ≡ all
-  all_is = ap (λ (n : ℕ). es ++ added n es news) (room_is s opened.whole told) ∙ sym (frames_with_is bytes es news read)
+  all_is = ap (λ (n : ℕ). es ++ added n es news) (room_is s opened.whole told)
+      ∙ sym (frames_with_is bytes es news read)
 
   abbrev P : List ℕ → Type 0
   P = HoldsOneOrMore (λ b. b ≡ bytes) bytes all
@@ -70,7 +74,8 @@ module _ {D : Type 0} (G : Ghosts D) (start : D) (only : Only (G.content start) 
           length all,
           few,
           omega arith,
-          is ∙ ap (λ (l : List Entry). Ok l) (all_is ∙ sym (take_all (length all) all (omega arith))),
+          is ∙ ap (λ (l : List Entry). Ok l) (all_is
+              ∙ sym (take_all (length all) all (omega arith))),
         ),
       )
 
@@ -83,6 +88,7 @@ module _ {D : Type 0} (G : Ghosts D) (start : D) (only : Only (G.content start) 
           durable = λ sound. kept.durable;
         };
         left = leaves_then G.moment G.images_since start (store.device_of s) (store.device_of new)
-            (ReadsAsOneOf (G.images start)) (IsBeforeOrAll es (added (store.state_of s).room es news)) P
+            (ReadsAsOneOf (G.images start)) (IsBeforeOrAll es
+            (added (store.state_of s).room es news)) P
             (opened.images told) images first then;
       }

@@ -1,9 +1,11 @@
 -- The frames of bytes that are a store have their forms.
-use Rattle.std.proofs.Common.{◌≡◌, ℕ, zero, suc, ◌+◌, Bool, true, false, cond, List, [], ◌∷◌, ◌++◌, length, take, drop, Option, Some, None, Result, Ok, Err, refl, subst}
+use Rattle.std.proofs.Common.{◌≡◌, ℕ, zero, suc, ◌+◌, Bool, true, false, cond, List, [], ◌∷◌, ◌++◌}
+use Rattle.std.proofs.Common.{length, take, drop, Option, Some, None, Result, Ok, Err, refl, subst}
 use Rattle.std.specs.Prelude.{◌==◌, nat_lt}
 use Rattle.std.specs.Str.{bytes_eq}
 use Rattle.std.proofs.lemmas.Bool.{and_from}
-use Rattle.record_log.specs.Kinds.{Entry, has_form, size, width_of, body, key_len, value_len, entry_in, frame_in, frame_at}
+use Rattle.record_log.specs.Kinds.{Entry, has_form, size, width_of, body, key_len, value_len}
+use Rattle.record_log.specs.Kinds.{entry_in, frame_in, frame_at}
 use Rattle.record_log.specs.Frames.{reading, walk, magic, Fault, all_formed}
 use Rattle.record_log.specs.Frames.Fault.{NotAStore, Damaged}
 use Rattle.record_log.specs.Texts.{formed_append}
@@ -27,7 +29,11 @@ found_formed before (kind ∷ tail) e is =
 
 abbrev next : List Entry → ℕ → List ℕ → Option Entry → Result (List Entry) Fault
 next before at rest o =
-    elim o [ Some e ↦ walk (before ++ e ∷ []) (at + 1) (size e) rest | None ↦ Err (Damaged (at + 1)) ]
+    elim o [
+      | Some e ↦ walk (before ++ e ∷ []) (at + 1) (size e) rest
+      | None ↦ Err
+          (Damaged (at + 1))
+    ]
 
 next_formed : (before : List Entry) (at : ℕ) (rest : List ℕ) (o : Option Entry) (es : List Entry)
     → all_formed [] before ≡ true → ((e : Entry) → o ≡ Some e → has_form before e ≡ true)
@@ -39,7 +45,8 @@ next_formed before at rest (Some e) es formed form more is =
     let one : all_formed before (e ∷ []) ≡ true = and_from _ _ (form e refl) refl in
     more e (formed_append before [] (e ∷ []) formed one) is
 
-gate_formed : (gate : Bool) (before : List Entry) (other : Result (List Entry) Fault) (es : List Entry)
+gate_formed : (gate : Bool) (before : List Entry) (other : Result (List Entry) Fault)
+    (es : List Entry)
     → all_formed [] before ≡ true → (other ≡ Ok es → all_formed [] es ≡ true)
     → cond gate other (Ok before) ≡ Ok es → all_formed [] es ≡ true
 gate_formed true before other es formed more is = more is
@@ -55,7 +62,8 @@ walk_formed [] before at zero es formed is =
 walk_formed [] before at (suc skip) es formed is =
     let same : before ≡ es = cc in
     subst (λ (l : List Entry). all_formed [] l ≡ true) same formed
-walk_formed (x ∷ rest) before at (suc skip) es formed is = walk_formed rest before (at + 1) skip es formed is
+walk_formed (x ∷ rest) before at (suc skip) es formed is =
+    walk_formed rest before (at + 1) skip es formed is
 walk_formed (gate ∷ rest) before at zero es formed is =
     gate_formed (gate == 1) before (next before at rest (frame_at before rest)) es formed
     (next_formed before at rest (frame_at before rest) es formed (found_formed before rest)
@@ -71,6 +79,8 @@ read_by false begins bytes es is =
     let none : [] ≡ es = cc in
     subst (λ (l : List Entry). all_formed [] l ≡ true) none refl
 
-pub read_formed : (bytes : List ℕ) (es : List Entry) → reading bytes ≡ Ok es → all_formed [] es ≡ true
+pub read_formed : (bytes : List ℕ) (es : List Entry) → reading bytes ≡ Ok es → all_formed [] es
+    ≡ true
 unfolding reading
-read_formed bytes es is = read_by (nat_lt 9 (length bytes)) (bytes_eq (take 8 bytes) magic) bytes es is
+read_formed bytes es is = read_by (nat_lt 9 (length bytes))
+    (bytes_eq (take 8 bytes) magic) bytes es is

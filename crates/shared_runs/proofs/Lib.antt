@@ -14,3 +14,5 @@ pub mod Texts
 pub mod Calls
 pub mod Owning
 pub mod PutCalls
+pub mod PutSeen
+pub mod Stepping

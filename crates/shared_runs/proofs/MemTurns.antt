@@ -1,5 +1,6 @@
 -- Turns of a shared file in memory.
-use Rattle.std.proofs.Common.{◌≡◌, inl, inr, ⊎_elim, ℕ, ◌+◌, ◌-◌, ◌≤◌, List, [], ◌∷◌, ◌++◌, length, Result, Ok, Err, refl, sym, ◌∙◌, ap, subst, arith, length-append}
+use Rattle.std.proofs.Common.{◌≡◌, inl, inr, ⊎_elim, ℕ, ◌+◌, ◌-◌, ◌≤◌, List, [], ◌∷◌, ◌++◌, length}
+use Rattle.std.proofs.Common.{Result, Ok, Err, refl, sym, ◌∙◌, ap, subst, arith, length-append}
 use Rattle.std.proofs.lemmas.List.{append-nil}
 use Rattle.rel_path.specs.Causes.{Counts, Rose}
 use Rattle.rel_path.specs.Limits.{store_limit}
@@ -19,7 +20,8 @@ use Rattle.shared_runs.specs.Appended.{IsFresh}
 use Rattle.shared_runs.specs.Frames.{HoldsOn, HoldsOneOrMore}
 use Rattle.shared_runs.specs.History.{LeftSince, faults_among}
 use Rattle.shared_runs.specs.HistoryLaws.{left_last, left_split, left_more, left_kept}
-use Rattle.shared_runs.specs.MemShared.{images_of, images_since_of, moment_of, devices_of, faults_of}
+use Rattle.shared_runs.specs.MemShared.{images_of, images_since_of, moment_of, devices_of}
+use Rattle.shared_runs.specs.MemShared.{faults_of}
 use Rattle.shared_runs.specs.MemLaws.{frames_with_is}
 use Rattle.shared_runs.specs.Others.{with_pairs, frames_with}
 use Rattle.shared_runs.specs.Turns.{GoesOn, is_fault}
@@ -55,7 +57,8 @@ goes_next old new d P past file here there =
       later = omega (arith, ap length past, length-append old.past.items (old.file ∷ []));
       each = λ c left. ⊎_elim (λ was. here c was) (λ now. there c now)
           (left_more old.past.items old.file d c (to (moment_of old) c left));
-      nothing_else = λ m c le left. ⊎_elim (λ was. inl was) (λ now. inr (from (moment_of old) c now))
+      nothing_else = λ m c le left. ⊎_elim (λ was. inl was)
+          (λ now. inr (from (moment_of old) c now))
           (left_split old.past.items old.file d m c le (to m c left));
       keeps = λ m c le left. from m c (left_kept all d m c left);
     }
@@ -88,16 +91,26 @@ module _ (old : MemShared) (d : MemStore) (items : List MemStore) (file : MemSto
       → Counts {T = T} is_fault (faults_of old + (device.faults_of d - 0))
       (faults + faults_among (items ++ file ∷ [])) (Ok value)
   counts_given value same =
-      record { later = omega (arith, faults_more, same); counted = omega (arith, faults_more, same) }
+      record {
+        later = omega (arith, faults_more, same);
+        counted = omega
+            (arith, faults_more, same);
+      }
 
   pub counts_taken : {T : Type 0} (value : T) → faults ≡ old.faults → device.faults_of d ≡ 0
-      → Counts {T = T} is_fault (faults_of old) (faults + faults_among (items ++ file ∷ [])) (Ok value)
+      → Counts {T = T} is_fault (faults_of old) (faults + faults_among (items ++ file ∷ []))
+      (Ok value)
   counts_taken value same none =
-      record { later = omega (arith, faults_more, same, none); counted = omega (arith, faults_more, same, none) }
+      record {
+        later = omega (arith, faults_more, same, none);
+        counted = omega
+            (arith, faults_more, same, none);
+      }
 
 -- ---- the frames of a file
 
-pub frames_with_none : (bytes : List ℕ) (pairs : List Pair) (fault : Fault) → reading bytes ≡ Err fault
+pub frames_with_none : (bytes : List ℕ) (pairs : List Pair) (fault : Fault) → reading bytes
+    ≡ Err fault
     → frames_with bytes pairs ≡ []
 unfolding frames_with
 frames_with_none bytes pairs fault is = rw (is, frames_with) refl
@@ -166,21 +179,25 @@ module _ (old : List ℕ) (new : List ℕ) (pairs : List Pair) where
 -- ---- images
 
 -- of a file that is one of its images
-pub one_is : (images : List ℕ → Type 0) (bytes : List ℕ) → images bytes → (all : List Entry) (c : List ℕ)
+pub one_is : (images : List ℕ → Type 0) (bytes : List ℕ) → images bytes
+    → (all : List Entry) (c : List ℕ)
     → HoldsOneOrMore (λ b. b ≡ bytes) bytes all c → HoldsOneOrMore images bytes all c
 one_is images bytes now all c (inl (d, is, same)) = inl (bytes, now, same ∙ ap reading is)
 one_is images bytes now all c (inr more) = inr more
 
 -- of a device that was not called yet there is but one
-pub fresh_images : (bytes : List ℕ) (d : MemStore) → IsFresh bytes d → (c : List ℕ) → device.images_of d c
+pub fresh_images : (bytes : List ℕ) (d : MemStore) → IsFresh bytes d → (c : List ℕ)
+    → device.images_of d c
     → c ≡ bytes
 fresh_images bytes d fresh c now =
     let is : c ≡ d.bytes.items =
-    subst (λ (l : List Step). ImagesFrom (origin d.bytes.items d.first.items l) l c) fresh.steps now in
+    subst (λ (l : List Step). ImagesFrom (origin d.bytes.items d.first.items l) l c) fresh.steps
+    now in
     is ∙ fresh.bytes_are
 
 pub reads_as : (d : MemStore) → device.images_of d (device.bytes_of d)
 reads_as d = reads_as_one (device.bytes_of d) (device.start_of d) (device.steps_of d) d.replayed
 
 pub left_as : (d : MemStore) → device.images_since_of d 0 (device.bytes_of d)
-left_as d = counts (device.start_of d) (device.steps_of d) 0 (device.bytes_of d) (omega arith) (reads_as d)
+left_as d = counts (device.start_of d) (device.steps_of d) 0 (device.bytes_of d) (omega arith)
+    (reads_as d)

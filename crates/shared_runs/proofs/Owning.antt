@@ -1,5 +1,6 @@
 -- What a run sees once it put pairs itself.
-use Rattle.std.proofs.Common.{◌≡◌, inl, inr, ℕ, zero, suc, ◌+◌, ◌<◌, ◌≤◌, Bool, true, false, cond, List, [], ◌∷◌, ◌++◌, length, refl, ◌∙◌, ap, arith}
+use Rattle.std.proofs.Common.{◌≡◌, inl, inr, ℕ, zero, suc, ◌+◌, ◌<◌, ◌≤◌, Bool, true, false, cond}
+use Rattle.std.proofs.Common.{List, [], ◌∷◌, ◌++◌, length, refl, ◌∙◌, ap, arith}
 use Rattle.std.specs.Prelude.{◌||◌, nat_lt, nat_eq}
 use Rattle.std.specs.List.{All}
 use Rattle.std.proofs.lemmas.Bool.{cases_lt, eq-eqb, ne_eqb}
@@ -22,20 +23,24 @@ pub length-chosen : (pairs : List Pair) (puts : List Put) → length puts ≡ le
 length-chosen [] [] even = refl
 length-chosen [] (p ∷ puts) even = absurd (omega (arith, even))
 length-chosen (x ∷ pairs) [] even = absurd (omega (arith, even))
-length-chosen (x ∷ pairs) (Stored ∷ puts) even = ap suc (length-chosen pairs puts (omega (arith, even)))
+length-chosen (x ∷ pairs) (Stored ∷ puts) even =
+    ap suc (length-chosen pairs puts (omega (arith, even)))
 length-chosen (x ∷ pairs) (Full ∷ puts) even = length-chosen pairs puts (omega (arith, even))
 
 less_behind : (room less taken : ℕ) (pairs : List Pair) (puts : List Put) → less ≤ room
     → NoRoomBehind room taken pairs puts → NoRoomBehind less taken pairs puts
 less_behind room less taken [] puts le x = tt
 less_behind room less taken (p ∷ pairs) [] le x = tt
-less_behind room less taken (p ∷ pairs) (Stored ∷ puts) le x = less_behind room less (taken + ample p) pairs puts le x
+less_behind room less taken (p ∷ pairs) (Stored ∷ puts) le x =
+    less_behind room less (taken + ample p) pairs puts le x
 less_behind room less taken (p ∷ pairs) (Full ∷ puts) le x =
     (omega (arith, le, x.0), less_behind room less taken pairs puts le x.1)
 
-pub to_put_less : (room less : ℕ) (pairs : List Pair) (puts : List Put) → less ≤ room → AreToPut room pairs puts
+pub to_put_less : (room less : ℕ) (pairs : List Pair) (puts : List Put) → less ≤ room
+    → AreToPut room pairs puts
     → AreToPut less pairs puts
-to_put_less room less pairs puts le x = record { even = x.even; full = less_behind room less 0 pairs puts le x.full }
+to_put_less room less pairs puts le x = record
+    { even = x.even; full = less_behind room less 0 pairs puts le x.full }
 
 -- ---- numbers
 
@@ -49,13 +54,16 @@ among_low : (from count k : ℕ) → k < from → is_among (numbers_on from coun
 among_low from zero k lt = refl
 among_low from (suc count) k lt =
     let apart : nat_eq from k ≡ false = ne_eqb from k (λ same. absurd (omega (arith, lt, same))) in
-    (λ i. apart i || is_among (numbers_on (from + 1) count) k) ∙ among_low (from + 1) count k (omega (arith, lt))
+    (λ i. apart i || is_among (numbers_on (from + 1) count) k)
+    ∙ among_low (from + 1) count k (omega (arith, lt))
 
-among_here : (from count k : ℕ) → from ≤ k → k < from + count → is_among (numbers_on from count) k ≡ true
+among_here : (from count k : ℕ) → from ≤ k → k < from + count → is_among (numbers_on from count) k
+    ≡ true
 among_here from zero k le lt = absurd (omega (arith, le, lt))
 among_here from (suc count) k le lt = elim (cases_lt from k) [
   | inl more ↦
-      let apart : nat_eq from k ≡ false = ne_eqb from k (λ same. absurd (omega (arith, more, same))) in
+      let apart : nat_eq from k ≡ false = ne_eqb from k
+      (λ same. absurd (omega (arith, more, same))) in
       (λ i. apart i || is_among (numbers_on (from + 1) count) k)
       ∙ among_here (from + 1) count k (omega (arith, more)) (omega (arith, lt))
   | inr last ↦
@@ -75,7 +83,8 @@ or_false false = refl
 
 module _ (old new : SeenPairs) (from count : ℕ) (first : new.first ≡ old.first)
     (own : new.own ≡ old.own ++ numbers_on from count) where
-  among_is : (k : ℕ) → is_among new.own k ≡ (is_among old.own k || is_among (numbers_on from count) k)
+  among_is : (k : ℕ) → is_among new.own k ≡ (is_among old.own k || is_among
+      (numbers_on from count) k)
   among_is k =
       ap (λ (l : List ℕ). is_among l k) own
       ∙ list_any-append (λ (other : ℕ). nat_eq other k) old.own (numbers_on from count)
@@ -83,23 +92,27 @@ module _ (old new : SeenPairs) (from count : ℕ) (first : new.first ≡ old.fir
   sees_low : (k : ℕ) → k < from → is_seen new k ≡ is_seen old k
   sees_low k lt =
       let same : is_among new.own k ≡ is_among old.own k =
-      among_is k ∙ ap (λ (b : Bool). is_among old.own k || b) (among_low from count k lt) ∙ or_false (is_among old.own k) in
+      among_is k ∙ ap (λ (b : Bool). is_among old.own k || b) (among_low from count k lt)
+      ∙ or_false (is_among old.own k) in
       λ i. nat_lt k (first i) || same i
 
   sees_here : (k : ℕ) → from ≤ k → k < from + count → is_seen new k ≡ true
   sees_here k le lt =
       let here : is_among new.own k ≡ true =
-      among_is k ∙ ap (λ (b : Bool). is_among old.own k || b) (among_here from count k le lt) ∙ or_true (is_among old.own k) in
+      among_is k ∙ ap (λ (b : Bool). is_among old.own k || b) (among_here from count k le lt)
+      ∙ or_true (is_among old.own k) in
       ap (λ (b : Bool). nat_lt k new.first || b) here ∙ or_true (nat_lt k new.first)
 
-  same_by : {A : Type 0} (a b : Bool) (x : A) (xs ys : List A) → a ≡ b → xs ≡ ys → cond a (x ∷ xs) xs ≡ cond b (x ∷ ys) ys
+  same_by : {A : Type 0} (a b : Bool) (x : A) (xs ys : List A) → a ≡ b → xs ≡ ys
+      → cond a (x ∷ xs) xs ≡ cond b (x ∷ ys) ys
   same_by a b x xs ys is are = λ i. cond (is i) (x ∷ are i) (are i)
 
   numbered_low : {A : Type 0} (n : ℕ) (xs : List A) → n + length xs ≤ from
       → numbered (is_seen new) n xs ≡ numbered (is_seen old) n xs
   numbered_low n [] le = refl
   numbered_low n (x ∷ xs) le =
-      same_by (is_seen new n) (is_seen old n) x (numbered (is_seen new) (n + 1) xs) (numbered (is_seen old) (n + 1) xs)
+      same_by (is_seen new n) (is_seen old n) x (numbered (is_seen new) (n + 1) xs)
+      (numbered (is_seen old) (n + 1) xs)
       (sees_low n (omega (arith, le))) (numbered_low (n + 1) xs (omega (arith, le)))
 
   numbered_here : {A : Type 0} (n : ℕ) (xs : List A) → from ≤ n → n + length xs ≤ from + count
@@ -107,10 +120,12 @@ module _ (old new : SeenPairs) (from count : ℕ) (first : new.first ≡ old.fir
   numbered_here n [] le lt = refl
   numbered_here n (x ∷ xs) le lt =
       same_by (is_seen new n) true x (numbered (is_seen new) (n + 1) xs) xs
-      (sees_here n le (omega (arith, lt))) (numbered_here (n + 1) xs (omega (arith, le)) (omega (arith, lt)))
+      (sees_here n le (omega (arith, lt))) (numbered_here (n + 1) xs (omega (arith, le))
+      (omega (arith, lt)))
 
   -- pairs in front are seen as before
-  pub view_low : {A : Type 0} (xs : List A) → length xs ≤ from → seen_pairs new xs ≡ seen_pairs old xs
+  pub view_low : {A : Type 0} (xs : List A) → length xs ≤ from → seen_pairs new xs
+      ≡ seen_pairs old xs
   view_low xs le = numbered_low 0 xs (omega (arith, le))
 
   -- and those that were put behind so many are all seen

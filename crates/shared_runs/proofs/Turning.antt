@@ -32,7 +32,8 @@ module _ {H : Type 0} (moment : H → ℕ) (since : H → ℕ → List ℕ → T
   }
 
 -- a device that is only read leaves since a moment what it might have left since then
-pub reads_since : {D : Type 0} (content : D → List ℕ) (images : D → List ℕ → Type 0) (moment : D → ℕ)
+pub reads_since : {D : Type 0} (content : D → List ℕ) (images : D → List ℕ → Type 0)
+    (moment : D → ℕ)
     (since : D → ℕ → List ℕ → Type 0) (old new : D) (start : ℕ) → start ≤ moment old
     → ((c : List ℕ) → images old c → since old start c)
     → OnlyReads content images moment since old new

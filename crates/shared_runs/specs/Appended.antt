@@ -17,13 +17,15 @@ pub record IsFresh (bytes : List ℕ) (d : MemStore) : Type 0 where
 
 -- The device behind pairs that were put, where it was a store, each where there was room for it. It
 -- began with all bytes synced.
-pub record HasPairs {D : Type 0} (G : Ghosts D) (old : D) (pairs : List Pair) (new : D) : Type 0 where
+pub record HasPairs {D : Type 0} (G : Ghosts D) (old : D) (pairs : List Pair)
+    (new : D) : Type 0 where
   pub taken : IsTaken (G.content old) (frames_with (G.content old) pairs)
       (G.content new) (G.images new)
   pub left : LeavesOnly G.moment G.images_since old new (HoldsOneOrMore
       (λ b. b ≡ G.content old) (G.content old) (frames_with (G.content old) pairs))
 
--- the device that holds a file as a turn begins, where the file had these bytes and these pairs came
+-- the device that holds a file as a turn begins, where the file had these bytes and these pairs
+-- came
 pub record IsBegun (bytes : List ℕ) (pairs : List Pair) (d : MemStore) : Type 0 where
   pub taken : IsTaken bytes (frames_with bytes pairs) (bytes_of d) (images_of d)
   pub left : (c : List ℕ) → images_since_of d 0 c

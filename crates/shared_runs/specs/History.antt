@@ -1,4 +1,5 @@
--- What a crash at some moment might have left of a file, by the devices that held it one after another.
+-- What a crash at some moment might have left of a file, by the devices that held it one after
+-- another.
 use Rattle.std.specs.Prelude.{◌⊎◌, ℕ, zero, suc, ◌+◌, List, [], ◌∷◌}
 use Rattle.store_dev.specs.declared.memory.MemStore.{MemStore}
 use Rattle.store_dev.specs.MemStore.{images_of, images_since_of, faults_of}

@@ -7,13 +7,14 @@ pub mod Appended
 pub mod MemShared
 pub mod MemLaws
 pub mod Own
+pub mod Costs
 pub mod Views
 pub mod Marked
 pub mod Passing
 pub mod Errors
 pub mod First
 pub mod Passes
-pub mod Costs
 pub mod Shared
+pub mod Steps
 pub mod SharedLaws
 pub mod Opened

@@ -1,5 +1,6 @@
 -- A shared file in memory: what it holds, what a crash may leave of it, and who else puts what.
-use Rattle.std.specs.Prelude.{◌≡◌, ℕ, ◌+◌, ◌-◌, ◌^◌, min, List, [], ◌∷◌, ◌++◌, length, get_or, if◌then◌else◌, Result, Ok, Err}
+use Rattle.std.specs.Prelude.{◌≡◌, ℕ, ◌+◌, ◌-◌, ◌^◌, min, List, [], ◌∷◌, ◌++◌, length, get_or}
+use Rattle.std.specs.Prelude.{if◌then◌else◌, Result, Ok, Err}
 use Rattle.std.specs.List.{Contains}
 use Rattle.store_dev.specs.declared.memory.MemStore.{MemStore}
 use Rattle.store_dev.specs.MemStore as device

@@ -15,7 +15,7 @@ use Rattle.pair_reader.specs.Answers.{HitIsWithin}
 use Rattle.artifact_store.specs.Outcomes.{outcomes}
 use Rattle.shared_runs.specs.declared.store.SharedStore.{SharedStore}
 use Rattle.shared_runs.specs.declared.turn.Shared.{Ghosts}
-use Rattle.shared_runs.specs.Costs.{most_cost}
+use Rattle.shared_runs.specs.Costs.{cost_among}
 use Rattle.shared_runs.specs.Views.{pairs_at, view_of, Says}
 
 -- an image says the pairs that were taken from it, whatever the run keeps
@@ -35,15 +35,17 @@ module _ {H D : Type 0} {G : Ghosts H D} {K : DeviceGhosts D} where
   abbrev pub coming_in : SharedStore H D G K → List Entry
   coming_in s = G.coming s.turns.shared
 
-  -- The pairs are those that the run sees; it may be used while what is known of the frames is kept; the room is that
-  -- of its last turn, or what the frames to come leave of it; and what it keeps as it is are the pairs of its first turn.
+  -- The pairs are those that the run sees; it may be used while what is known of the frames is
+  -- kept; the room is that of its last turn, or what the frames to come leave of it; its reads are
+  -- those of its turns once they are open; and what it keeps as it is are the pairs of its first
+  -- turn.
   abbrev pub state_of : SharedStore H D G K → CacheState (K.tells → List Pair)
   state_of s = record {
     pairs = view_of s.seen (file_of s);
     whole = is_some s.turns.mark;
     room = min s.turns.room (store_limit - ends (coming_in s));
     faults = G.store_faults s.turns.shared + s.turns.damaged;
-    probes = 0;
+    probes = s.turns.reads;
     base = λ told. take s.seen.first (pairs_at (file_of s));
   }
 
@@ -53,7 +55,8 @@ module _ {H D : Type 0} {G : Ghosts H D} {K : DeviceGhosts D} where
   -- what a crash since a moment may have left says
   abbrev pub left_of : SharedStore H D G K → Moment → Option (List Pair) → Type 0
   left_of s m left = (image : List ℕ) × (G.images_since s.turns.shared m.first image
-      × Says (is_some s.turns.mark) (G.images_since s.turns.shared (G.turn s.turns.shared).began) s.seen (file_of s) image left)
+      × Says (is_some s.turns.mark) (G.images_since s.turns.shared (G.turn s.turns.shared).began)
+      s.seen (file_of s) image left)
 
   -- ---- hits
 
@@ -66,9 +69,10 @@ module _ {H D : Type 0} {G : Ghosts H D} {K : DeviceGhosts D} where
 
   -- ---- look-ups and puts
 
-  -- how often a turn's store may be read to look up a key among the pairs that are seen, and then what was found
+  -- how often a turn's store may be read to look up a key among the pairs that are seen, and then
+  -- what was found
   abbrev pub cost_of : SharedStore H D G K → List ℕ → ℕ
-  cost_of s key = most_cost s.seen (frames_in s) key
+  cost_of s key = cost_among s.seen (frames_in s) key
 
   -- for which of these pairs there is room behind the frames to come, one after another
   abbrev pub stores : SharedStore H D G K → List Pair → List Put

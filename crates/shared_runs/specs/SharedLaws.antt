@@ -1,5 +1,6 @@
 -- What a crash leaves of a run's cache while it may be used.
-use Rattle.std.proofs.Common.{◌≡◌, inl, inr, ℕ, List, length, Option, Some, None, Ok, refl, sym, ◌∙◌, ap, subst, arith}
+use Rattle.std.proofs.Common.{◌≡◌, inl, inr, ℕ, List, length, Option, Some, None, Ok, refl, sym}
+use Rattle.std.proofs.Common.{◌∙◌, ap, subst, arith}
 use Rattle.std.specs.Prelude.{is_some, IsTrue}
 use Rattle.std.proofs.lemmas.List.{take_all}
 use Rattle.store_dev.specs.declared.device.StoreDevice.{Ghosts as DeviceGhosts}
@@ -18,7 +19,8 @@ some_of None is = absurd cc
 
 -- it says the pairs
 pub rests : {H D : Type 0} {G : Ghosts H D} {K : DeviceGhosts D} (s : SharedStore H D G K)
-    → ((c : List ℕ) → G.images_since s.turns.shared (G.moment s.turns.shared) c → G.images s.turns.shared c)
+    → ((c : List ℕ) → G.images_since s.turns.shared (G.moment s.turns.shared) c
+    → G.images s.turns.shared c)
     → (o : Option (List Pair)) → K.tells → IsTrue (state_of s).whole → left_of s (moment_of s) o
     → o ≡ Some (state_of s).pairs
 rests {G = G} s only o told whole (c, (left, says)) =
@@ -26,7 +28,8 @@ rests {G = G} s only o told whole (c, (left, says)) =
     let marked = (s.kept m is told).marked in
     let same : c ≡ file_of s = marked.durable c (only c left) in
     let all = frames_of (file_of s) in
-    let front : IsLeft (is_some s.turns.mark) (G.images_since s.turns.shared (G.turn s.turns.shared).began) (file_of s) (file_of s) =
+    let front : IsLeft (is_some s.turns.mark) (G.images_since s.turns.shared
+    (G.turn s.turns.shared).began) (file_of s) (file_of s) =
     inl (
       length all,
       omega arith,
@@ -36,5 +39,6 @@ rests {G = G} s only o told whole (c, (left, says)) =
     elim says [
       | inl x ↦ x.1 ∙ ap (λ (b : List ℕ). Some (view_of s.seen b)) same
       | inr x ↦ absurd (x.0 (subst (λ (b : List ℕ). IsLeft (is_some s.turns.mark)
-          (G.images_since s.turns.shared (G.turn s.turns.shared).began) (file_of s) b) (sym same) front))
+          (G.images_since s.turns.shared (G.turn s.turns.shared).began) (file_of s) b)
+          (sym same) front))
     ]

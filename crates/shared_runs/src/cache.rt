@@ -1,6 +1,6 @@
 // A shared file as a cache of one run.
-ghost use Rattle.std.specs.Prelude.{◌≡◌, ◌+◌, ◌<◌, ◌≤◌, List, ℕ, length, IsTrue, IfOk, IfErr};
-ghost use Rattle.std.specs.Prelude.{IfSome};
+ghost use Rattle.std.specs.Prelude.{◌≡◌, ◌+◌, ◌<◌, ◌≤◌, false, List, ℕ, length, IsTrue, IfOk};
+ghost use Rattle.std.specs.Prelude.{IfErr, IfSome, OnErr};
 ghost use Rattle.rel_path.specs.Causes.{Counts};
 ghost use Rattle.codes.specs.Views.{found_as};
 ghost use Rattle.cache_api.specs.Cache.{CacheReads, Keeps, HitsStay, StaysWhole, AllAfter, ArePut};
@@ -30,6 +30,7 @@ impl<H: Shared> Cache for SharedStore<H> {
     ghost use Rattle.shared_runs.specs.Passing.{LeavesFirst};
     ghost use Rattle.shared_runs.specs.Passes.{LeavesPut};
     ghost use Rattle.shared_runs.specs.SharedLaws.{rests};
+    ghost use Rattle.shared_runs.specs.Steps.{Looks, Reads, Adds};
 
     ghost tells = { H.Device.tells };
 
@@ -81,7 +82,10 @@ impl<H: Shared> Cache for SharedStore<H> {
         // that were to come.
         ensures images { H.Device.tells
             → LeavesFirst H.Shared self.old.turns.shared self.new.turns.shared }
+        ensures steps { H.Device.tells
+            → Looks self.old self.new (key_text key.entry) outs.now result }
         ensures whole { StaysWhole result (state_of self.old).whole (state_of self.new).whole }
+        ensures dropped { OnErr result ((state_of self.new).whole ≡ false) }
         ensures answers { IfErr result IsFindErr }
         ensures cause { Counts is_fault (state_of self.old).faults
             (state_of self.new).faults result }
@@ -101,7 +105,9 @@ impl<H: Shared> Cache for SharedStore<H> {
         // that were to come.
         ensures images { H.Device.tells
             → LeavesFirst H.Shared self.old.turns.shared self.new.turns.shared }
+        ensures steps { H.Device.tells → Reads self.old self.new result }
         ensures whole { StaysWhole result (state_of self.old).whole (state_of self.new).whole }
+        ensures dropped { OnErr result ((state_of self.new).whole ≡ false) }
         ensures answers { IfErr result IsFindErr }
         ensures cause { Counts is_fault (state_of self.old).faults
             (state_of self.new).faults result }
@@ -123,7 +129,9 @@ impl<H: Shared> Cache for SharedStore<H> {
         // that were to come.
         ensures images { H.Device.tells
             → LeavesFirst H.Shared self.old.turns.shared self.new.turns.shared }
+        ensures steps { H.Device.tells → Reads self.old self.new result }
         ensures whole { StaysWhole result (state_of self.old).whole (state_of self.new).whole }
+        ensures dropped { OnErr result ((state_of self.new).whole ≡ false) }
         ensures answers { IfErr result IsFindErr }
         ensures cause { Counts is_fault (state_of self.old).faults
             (state_of self.new).faults result }
@@ -132,9 +140,8 @@ impl<H: Shared> Cache for SharedStore<H> {
         self.turns.read(alloc, file.spans.as_slice())
     }
 
-    /// One append behind the frames that others appended before the turn. Where a call of the turn
-    /// failed, the pairs are as before, and what the file then holds of the new ones counts as
-    /// another run's.
+    /// One append behind the frames that others appended before the turn. After an error the pairs
+    /// are as before, whatever the file then holds of the new ones, and no further turn is taken.
     fn put_all(&mut self, alloc: Global, pairs: &[NewPair]) -> Result<Puts, CacheErr>
         requires { IsTrue (state_of self.old).whole }
         ensures outcome { H.Device.tells
@@ -155,18 +162,29 @@ impl<H: Shared> Cache for SharedStore<H> {
         // that were to come, or all of these and the frames of the pairs.
         ensures images { H.Device.tells → LeavesPut H.Shared (new_pairs pairs.now)
             self.old.turns.shared self.new.turns.shared }
+        ensures steps { H.Device.tells → Adds self.old self.new
+            (chosen (new_pairs pairs.now) (stores self.old (new_pairs pairs.now))) result }
         ensures hits { HitsStay H.Device.tells stands shows self.old self.new }
         ensures keeps { Keeps (state_of self.old) (state_of self.new) }
         ensures whole { StaysWhole result (state_of self.old).whole (state_of self.new).whole }
+        ensures dropped { OnErr result ((state_of self.new).whole ≡ false) }
         ensures answers { IfErr result IsFindErr }
         ensures cause { Counts is_fault (state_of self.old).faults
             (state_of self.new).faults result }
     {
         let puts = self.turns.put(alloc, pairs)?;
         let from = self.turns.count.max(self.next);
-        let (own, next) = with_own(alloc, &self.seen.own, from, stored(puts.as_slice()))?;
-        self.seen.own = own;
-        self.next = next;
-        Ok(puts)
+        match with_own(alloc, &self.seen.own, from, stored(puts.as_slice())) {
+            Ok((own, next)) => {
+                self.seen.own = own;
+                self.next = next;
+                Ok(puts)
+            }
+            // The file has the pairs and the run does not see them.
+            Err(fault) => {
+                self.turns.mark = None;
+                Err(fault)
+            }
+        }
     }
 }

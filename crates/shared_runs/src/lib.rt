@@ -18,25 +18,37 @@
 //! which is counted, and where the file is found to be no store any more. After an error the cache
 //! is to be opened again, and takes no further turn.
 //!
+//! A cache counts how often its calls read frames of the file (`SharedStore::probes`): those that a
+//! look-up reads, the places of a hit, and what a put compares. To read what others appended is
+//! part of taking a turn, and is not counted.
+//!
+//! In the machine of `shared_views` the opening of a file is the entering of a run, and each call
+//! is events of others and then its own, whoever the others are (`specs/Steps`). So the laws of the
+//! machine hold of every cache here. `seen_law` says what a run sees: the pairs that the file had
+//! as it entered, and then its own, in order, and no later pair of others. `comes_law` says that
+//! whatever comes, there are events of others that bring it, so that none of this is said of
+//! nothing.
+//!
 //! `specs/` says what bytes stand for beside those of another moment (`Frames`), what taking and
 //! giving a turn leave (`Turns`), what a file in memory holds and will hold (`Others`, `History`,
 //! `MemShared`), what a run sees of a file and what an image says of it (`Views`), what it is as a
-//! cache (`Shared`), what its opening answers (`Opened`), and what its turns leave (`Passing`,
-//! `Passes`).
+//! cache (`Shared`), which events its calls are (`Steps`), what its opening answers (`Opened`), and
+//! what its turns leave (`Passing`, `Passes`).
 #![tactic(auto)]
 
 mod appended;
 mod cache;
 mod first;
+mod laws;
 mod memory;
 mod others;
 mod own;
 mod passing;
-mod reading;
 mod store;
 mod turn;
 mod turns;
 
+pub use laws::{comes_law, seen_law};
 pub use memory::MemShared;
 pub use others::{OtherPut, OtherPuts};
 pub use store::SharedStore;

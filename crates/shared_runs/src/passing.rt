@@ -1,9 +1,10 @@
 // Taking a turn with a store, and giving it back.
-ghost use Rattle.std.specs.Prelude.{◌≡◌, ◌≤◌, ◌+◌, ◌-◌, ◌^◌, true, false, IfOk, IfErr, OnOk, OnErr};
+ghost use Rattle.std.specs.Prelude.{◌≡◌, ◌≤◌, ◌+◌, ◌-◌, ◌^◌, true, false, IfOk, IfErr, OnOk};
+ghost use Rattle.std.specs.Prelude.{OnErr};
 ghost use Rattle.rel_path.specs.Causes.{Counts, Rose};
 ghost use Rattle.cache_api.specs.Cache.{IsFindErr, is_fault as is_cache_fault};
-ghost use Rattle.artifact_store.specs.Marks.{IsMarkOf};
-ghost use Rattle.artifact_store.specs.Store.{device_of};
+ghost use Rattle.artifact_store.specs.Marks.{IsMarkOf, foreseen};
+ghost use Rattle.artifact_store.specs.Store.{device_of, lengths_of};
 ghost use Rattle.shared_runs.specs.Errors.{of_turn, of_opening, is_damage};
 ghost use Rattle.store_dev.specs.Device.{Only, Within};
 ghost use Rattle.record_log.specs.Frames.{IsSound, ends, frames_of};
@@ -91,6 +92,7 @@ pub(crate) fn begin<H: Shared>(
         (BeginsTurn H.Shared H.Device.StoreDevice shared.old shared.new) }
     ensures given { OnErr result ((H.turn shared.new).held ≡ false) }
     ensures began { (H.turn shared.new).began ≡ H.moment shared.old }
+    ensures foresees { IfOk result (λ s. lengths_of s ≡ foreseen mark) }
     ensures file { H.Device.tells → LeavesFirst H.Shared shared.old shared.new }
     ensures grows { ends (H.coming shared.old) ≤ ends (H.coming shared.new) }
     ensures told { H.Device.tells → damaged.new ≡ damaged.old }
@@ -123,8 +125,10 @@ pub(crate) fn close<H: Shared>(
     ensures held { (H.turn shared.new).held ≡ false }
     ensures began { (H.turn shared.new).began ≡ (H.turn shared.old).began }
     ensures file { H.Device.tells → H.content shared.new ≡ H.Device.content (device_of store) }
+    ensures sound { H.Device.tells → IsSound (H.content shared.new) }
     ensures mark { H.Device.tells
         → IfOk result (λ mark. IsMarkOf mark (frames_of (H.content shared.new))) }
+    ensures foresees { IfOk result (λ mark. foreseen mark ≡ lengths_of store) }
     ensures durable { H.Device.tells
         → OnOk result (Only (H.content shared.new) (H.images shared.new)) }
     ensures time { H.Device.tells → GoesOn H.moment H.images_since shared.old shared.new

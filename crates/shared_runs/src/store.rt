@@ -17,7 +17,7 @@ use std::alloc::Global;
 /// that it puts itself.
 ///
 /// Each call takes the turn, reads the frames that came since, does its work, syncs and gives the
-/// turn back, whatever it answers. After a call that answered `Failed` no further turn is taken.
+/// turn back, whatever it answers. After a call that answered an error no further turn is taken.
 #[derive(Drop)]
 pub struct SharedStore<H: Shared> {
     pub(crate) turns: Turns<H>,
@@ -34,6 +34,7 @@ pub struct SharedStore<H: Shared> {
 impl<H: Shared> SharedStore<H> {
     ghost use Rattle.shared_runs.specs.First.{TellsFile};
     ghost use Rattle.shared_runs.specs.Opened.{IsOpened, IsUnopened};
+    ghost use Rattle.shared_runs.specs.Shared.{state_of};
 
     /// Takes the first turn, and opens the file as a store, which is then written where at most
     /// nine bytes stand in it. The pairs are those that it finds. What is no store is handed back,
@@ -66,6 +67,7 @@ impl<H: Shared> SharedStore<H> {
         ensures own { result.seen.own ≡ [] }
         ensures whole { is_some result.turns.mark ≡ true }
         ensures damaged { result.turns.damaged ≡ 0 }
+        ensures reads { result.turns.reads ≡ 0 }
     {
         SharedStore {
             turns: Turns {
@@ -74,6 +76,7 @@ impl<H: Shared> SharedStore<H> {
                 room,
                 count: first,
                 damaged: 0,
+                reads: 0,
             },
             seen: SeenPairs {
                 first,
@@ -81,6 +84,14 @@ impl<H: Shared> SharedStore<H> {
             },
             next: 0,
         }
+    }
+
+    /// How often its calls have read the file's frames, at most the greatest `u64`. What the taking
+    /// of a turn reads of others' frames is not counted.
+    pub fn probes(&self) -> u64
+        ensures { result ≡ (state_of self.now).probes }
+    {
+        self.turns.reads
     }
 
     /// The file, whose turn is not held.

@@ -1,5 +1,7 @@
-mod Folded
+pub mod Folded
 mod Numbered
-mod Seen
+pub mod Seen
 pub mod Origins
 mod Examples
+pub mod Going
+pub mod Coming

@@ -26,20 +26,47 @@ map-numbered (Add i pair ∷ events) = ap (λ ps. pair ∷ ps) (map-numbered eve
 map-numbered (Cut i ∷ events) = map-numbered events
 
 -- those of one run
-filter-numbered : (i : ℕ) (events : List Event) → map (λ n. n.1) (filter (λ n. n.0 == i) (numbered events)) ≡ added_by i events
+filter-numbered : (i : ℕ) (events : List Event)
+    → map (λ n. n.1) (filter (λ n. n.0 == i) (numbered events)) ≡ added_by i events
 unfolding numbered
 filter-numbered i [] = refl
 filter-numbered i (Enter j ∷ events) =
-    elim (cases_Bool (j == i)) [ inl e ↦ rw e (filter-numbered i events) | inr e ↦ rw e (filter-numbered i events) ]
+    elim (cases_Bool (j == i)) [
+      | inl e ↦ rw e (filter-numbered i events)
+      | inr e ↦ rw e
+          (filter-numbered i events)
+    ]
 filter-numbered i (Look j key outs ∷ events) =
-    elim (cases_Bool (j == i)) [ inl e ↦ rw e (filter-numbered i events) | inr e ↦ rw e (filter-numbered i events) ]
+    elim (cases_Bool (j == i)) [
+      | inl e ↦ rw e (filter-numbered i events)
+      | inr e ↦ rw e
+          (filter-numbered i events)
+    ]
 filter-numbered i (Add j pair ∷ events) =
-    elim (cases_Bool (j == i)) [ inl e ↦ rw e (ap (λ ps. pair ∷ ps) (filter-numbered i events)) | inr e ↦ rw e (filter-numbered i events) ]
+    elim (cases_Bool (j == i)) [
+      | inl e ↦ rw e (ap (λ ps. pair ∷ ps) (filter-numbered i events))
+      | inr e ↦ rw e (filter-numbered i events)
+    ]
 filter-numbered i (Cut j ∷ events) =
-    elim (cases_Bool (j == i)) [ inl e ↦ rw e (filter-numbered i events) | inr e ↦ rw e (filter-numbered i events) ]
+    elim (cases_Bool (j == i)) [
+      | inl e ↦ rw e (filter-numbered i events)
+      | inr e ↦ rw e
+          (filter-numbered i events)
+    ]
 
 pub interleaved : (events : List Event) → IsInterleaving (λ i. added_by i events) (added events)
-interleaved events = record { numbered = numbered events; pairs_are = map-numbered events; lists_are = λ i. filter-numbered i events }
+interleaved events = record {
+  numbered = numbered events;
+  pairs_are = map-numbered events;
+  lists_are
+      = λ i. filter-numbered i events;
+}
 
 pub files : FileLaw
-files first due events adds = record { new = added events; file_is = file-grows _ events; interleaved = interleaved events; parts = adds }
+files first due events adds = record {
+  new = added events;
+  file_is = file-grows _
+      events;
+  interleaved = interleaved events;
+  parts = adds;
+}

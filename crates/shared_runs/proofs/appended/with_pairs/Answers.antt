@@ -16,8 +16,10 @@ returns-in-Ok-put_all-clause-put g c told =
     let new = c.put_all.new.self in
     let is : new_pairs c.as_slice.result.now ≡ pairs_of c.args.puts.now =
     ap (λ (l : List NewPair). new_pairs l) c.as_slice.ensures.value ∙ c.in_ok-pairs-in-Ok.ensures in
-    let has = has_pairs s file (c.requires told) c.in-Ok.store new told lengths.All c.in-Ok.ensures.opened
-    (new_pairs c.as_slice.result.now) (c.in-Ok-put_all.ensures.frames told) (c.put_all.ensures.images told)
+    let has = has_pairs s file (c.requires told) c.in-Ok.store new told lengths.All
+    c.in-Ok.ensures.opened
+    (new_pairs c.as_slice.result.now) (c.in-Ok-put_all.ensures.frames told)
+    (c.put_all.ensures.images told)
     (subst (λ b. IsTrue b) (sym c.in-Ok-put_all.ensures.whole) c.in-Ok.ensures.opened.whole) in
     subst (λ d. HasPairs s file (pairs_of c.args.puts.now) d) (sym c.device.ensures.device)
     (subst (λ (l : List Pair). HasPairs s file l new.log.device) is has)

@@ -8,8 +8,10 @@ give-requires-clause-kept g c told sound b left =
     let k = g.H.Device.StoreDevice in
     let start = (g.H.Shared.turn c.args.shared.now).start in
     c.requires.kept told sound b
-    (reads_since k.content k.images k.moment k.images_since c.args.device c.sync-synced.new.self start (c.requires.start told)
-    (λ x now. g.met.H.Device.StoreDevice.counts_now c.args.device start x (c.requires.start told) now) c.sync-synced.ensures.reads b left)
+    (reads_since k.content k.images k.moment k.images_since c.args.device c.sync-synced.new.self
+    start (c.requires.start told)
+    (λ x now. g.met.H.Device.StoreDevice.counts_now c.args.device start x
+    (c.requires.start told) now) c.sync-synced.ensures.reads b left)
 
 pub returns-in_err-give-clause-time : goal.returns-in_err-give-clause-time
 returns-in_err-give-clause-time g c told =
@@ -22,8 +24,10 @@ returns-in_err-give-clause-time g c told =
     (LeftInTurn (g.H.Shared.images shared) (k.images_since synced start))
     (LeftInTurn (g.H.Shared.images shared) (k.images_since device start)) (c.give.ensures.time told)
     (λ b. ⊎_elim (λ was. inl was) (λ left. inr
-    (reads_since k.content k.images k.moment k.images_since device synced start (c.requires.start told)
-    (λ x now. g.met.H.Device.StoreDevice.counts_now device start x (c.requires.start told) now) c.sync-synced.ensures.reads b left)))
+    (reads_since k.content k.images k.moment k.images_since device synced start
+    (c.requires.start told)
+    (λ x now. g.met.H.Device.StoreDevice.counts_now device start x (c.requires.start told) now)
+    c.sync-synced.ensures.reads b left)))
 
 pub returns-in-Ok-clause-time : goal.returns-in-Ok-clause-time
 returns-in-Ok-clause-time g c told =
@@ -36,8 +40,10 @@ returns-in-Ok-clause-time g c told =
     (LeftInTurn (g.H.Shared.images shared) (k.images_since synced start))
     (LeftInTurn (g.H.Shared.images shared) (k.images_since device start)) (c.give.ensures.time told)
     (λ b. ⊎_elim (λ was. inl was) (λ left. inr
-    (reads_since k.content k.images k.moment k.images_since device synced start (c.requires.start told)
-    (λ x now. g.met.H.Device.StoreDevice.counts_now device start x (c.requires.start told) now) c.sync-synced.ensures.reads b left)))
+    (reads_since k.content k.images k.moment k.images_since device synced start
+    (c.requires.start told)
+    (λ x now. g.met.H.Device.StoreDevice.counts_now device start x (c.requires.start told) now)
+    c.sync-synced.ensures.reads b left)))
 
 pub returns-in-Err-clause-time : goal.returns-in-Err-clause-time
 returns-in-Err-clause-time g c told =
@@ -50,5 +56,7 @@ returns-in-Err-clause-time g c told =
     (LeftInTurn (g.H.Shared.images shared) (k.images_since synced start))
     (LeftInTurn (g.H.Shared.images shared) (k.images_since device start)) (c.give.ensures.time told)
     (λ b. ⊎_elim (λ was. inl was) (λ left. inr
-    (reads_since k.content k.images k.moment k.images_since device synced start (c.requires.start told)
-    (λ x now. g.met.H.Device.StoreDevice.counts_now device start x (c.requires.start told) now) c.sync-synced.ensures.reads b left)))
+    (reads_since k.content k.images k.moment k.images_since device synced start
+    (c.requires.start told)
+    (λ x now. g.met.H.Device.StoreDevice.counts_now device start x (c.requires.start told) now)
+    c.sync-synced.ensures.reads b left)))

@@ -5,4 +5,5 @@ use Rattle.relay_store.proofs.part.Part.hit_log.Goals as goal
 pub returns-clause-asked : goal.returns-clause-asked
 returns-clause-asked g c =
     let x = c.hit_log.ensures in
-    asked c.args.self.now _ c.in-Some.store c.hit_log.new.self c.hit_log.result c.in-Some.is refl refl x.reads x.whole x.answers x.cause
+    asked c.args.self.now _ c.in-Some.store c.hit_log.new.self c.hit_log.result c.in-Some.is refl
+    refl x.reads x.whole x.answers x.cause

@@ -12,7 +12,8 @@ returns-clause-fit g c told fits =
     let old = c.in-Some.store in
     let new = c.need.new.self in
     let pair = new_pair c.args.pair in
-    let same : frames_of new ≡ frames_of old = frames_read old.log new.log c.need.ensures.store.log in
+    let same : frames_of new ≡ frames_of old = frames_read old.log new.log
+    c.need.ensures.store.log in
     let le = leb-true c.in_ok-need.need c.free.result fits in
     let room : (state_of new).room < 2 ^ 63 = omega arith in
     let need = c.in_ok-need.ensures.need told in

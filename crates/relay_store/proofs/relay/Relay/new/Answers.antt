@@ -9,11 +9,13 @@ use Rattle.relay_store.proofs.relay.Relay.new.Goals as goal
 pub returns-clause-local_pairs : goal.returns-clause-local_pairs
 returns-clause-local_pairs g c told =
     let part = c.new.result in
-    sym (parted part ∙ ap (λ (l : List Pair). first_of part ++ l) (c.new.ensures.first told) ∙ append-nil (first_of part))
+    sym (parted part ∙ ap (λ (l : List Pair). first_of part ++ l) (c.new.ensures.first told)
+    ∙ append-nil (first_of part))
     ∙ ap (λ o. (state_in o).pairs) c.new.ensures.store
 
 pub returns-clause-second_pairs : goal.returns-clause-second_pairs
 returns-clause-second_pairs g c told =
     let part = c.new-2.result in
-    sym (parted part ∙ ap (λ (l : List Pair). first_of part ++ l) (c.new-2.ensures.first told) ∙ append-nil (first_of part))
+    sym (parted part ∙ ap (λ (l : List Pair). first_of part ++ l) (c.new-2.ensures.first told)
+    ∙ append-nil (first_of part))
     ∙ ap (λ o. (state_in o).pairs) c.new-2.ensures.store

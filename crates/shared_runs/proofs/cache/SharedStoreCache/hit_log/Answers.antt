@@ -1,6 +1,7 @@
-use Rattle.std.proofs.Common.{refl}
-use Rattle.shared_runs.proofs.Calls.{sees_passed, kept_passed}
+use Rattle.std.proofs.Common.{refl, ap}
+use Rattle.shared_runs.proofs.Calls.{sees_passed, kept_passed, passed_store, ok_read}
 use Rattle.shared_runs.proofs.Ending.{some_of}
+use Rattle.shared_runs.proofs.Stepping.{reads_steps}
 use Rattle.shared_runs.proofs.Passed.{reads_view}
 use Rattle.shared_runs.proofs.cache.SharedStoreCache.hit_log.Goals as goal
 
@@ -9,7 +10,8 @@ invariant_of-self g c =
     let old = c.args.self.now in
     let (m, was) = some_of old.turns.mark c.requires.whole in
     let turn = c.read.ensures.turn in
-    let stays = λ (told : g.H.Device.StoreDevice.tells). g.met.H.Shared.stays old.turns.shared told (old.sees told).sound in
+    let stays = λ (told : g.H.Device.StoreDevice.tells). g.met.H.Shared.stays old.turns.shared told
+    (old.sees told).sound in
     record {
       idle = turn.held;
       below = old.below;
@@ -22,8 +24,25 @@ returns-clause-reads g c =
     let old = c.args.self.now in
     let (m, was) = some_of old.turns.mark c.requires.whole in
     let turn = c.read.ensures.turn in
-    let stays = λ (told : g.H.Device.StoreDevice.tells). g.met.H.Shared.stays old.turns.shared told (old.sees told).sound in
-    reads_view old _ m was refl turn.began turn.first c.read.ensures.room turn.grows turn.ended stays
+    let stays = λ (told : g.H.Device.StoreDevice.tells). g.met.H.Shared.stays old.turns.shared told
+    (old.sees told).sound in
+    reads_view old _ m was refl turn.began turn.first c.read.ensures.room turn.grows
+    turn.reads turn.ended stays
 
 pub returns-clause-images : goal.returns-clause-images
 returns-clause-images g c told = c.read.ensures.turn.first told
+
+pub returns-clause-steps : goal.returns-clause-steps
+returns-clause-steps g c told =
+    let old = c.args.self.now in
+    let (m, was) = some_of old.turns.mark c.requires.whole in
+    let turn = c.read.ensures.turn in
+    let stays = λ (told : g.H.Device.StoreDevice.tells).
+    g.met.H.Shared.stays old.turns.shared told (old.sees told).sound in
+    let new = passed_store old c.read.new.self m was stays turn in
+    let reads = reads_view old new m was refl turn.began turn.first c.read.ensures.room turn.grows
+    turn.reads turn.ended stays in
+    reads_steps old _ m was (stays told) (λ t. ap (λ b. b t) reads.keeps.base) c.read.result
+    (reads.pairs told) c.read.ensures.stays c.read.ensures.dropped
+    (ok_read old c.read.new.self m was stays turn c.read.result c.read.ensures.stays told)
+    (turn.first told).file

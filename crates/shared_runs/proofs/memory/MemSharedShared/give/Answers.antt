@@ -7,7 +7,8 @@ use Rattle.shared_runs.specs.Others.{frames_with}
 use Rattle.store_dev.specs.MemStore as device
 use Rattle.shared_runs.specs.MemShared.{images_of, bytes_of, pairs_coming, puts_at, next_turn}
 use Rattle.shared_runs.specs.Turns.{LeftInTurn}
-use Rattle.shared_runs.proofs.MemTurns.{goes_next, grows_given, counts_failed, counts_given, left_as}
+use Rattle.shared_runs.proofs.MemTurns.{goes_next, grows_given, counts_failed, counts_given}
+use Rattle.shared_runs.proofs.MemTurns.{left_as}
 use Rattle.shared_runs.proofs.memory.MemSharedShared.give.Goals as goal
 
 pub returns-then-next_fails-clause-time : goal.returns-then-next_fails-clause-time
@@ -28,13 +29,15 @@ returns-then-next_fails-clause-grows c =
     let d = c.args.device in
     let pairs : List Pair = puts_at m (next_turn m) in
     let none : pairs_coming m ≡ [] = ap (λ (b : Bool). cond b [] pairs) c.requires.held in
-    let kept : (sound : IsSound (bytes_of m)) → HoldsOn (frames_of (bytes_of m)) (device.bytes_of d) =
+    let kept : (sound : IsSound (bytes_of m)) → HoldsOn (frames_of (bytes_of m))
+    (device.bytes_of d) =
     λ sound. c.requires.kept tt sound (device.bytes_of d) (left_as d) in
     omega (
       arith,
       grows_given (bytes_of m) (device.bytes_of d) pairs kept,
       ap (λ (l : List Pair). ends (frames_with (bytes_of m) l)) none,
-      ap (λ (f : MemStore). ends (frames_with (device.bytes_of f) pairs)) c.replace-before.ensures.after,
+      ap (λ (f : MemStore). ends (frames_with (device.bytes_of f) pairs))
+          c.replace-before.ensures.after,
     )
 
 pub returns-clause-grows : goal.returns-clause-grows
@@ -43,13 +46,15 @@ returns-clause-grows c =
     let d = c.args.device in
     let pairs : List Pair = puts_at m (next_turn m) in
     let none : pairs_coming m ≡ [] = ap (λ (b : Bool). cond b [] pairs) c.requires.held in
-    let kept : (sound : IsSound (bytes_of m)) → HoldsOn (frames_of (bytes_of m)) (device.bytes_of d) =
+    let kept : (sound : IsSound (bytes_of m)) → HoldsOn (frames_of (bytes_of m))
+    (device.bytes_of d) =
     λ sound. c.requires.kept tt sound (device.bytes_of d) (left_as d) in
     omega (
       arith,
       grows_given (bytes_of m) (device.bytes_of d) pairs kept,
       ap (λ (l : List Pair). ends (frames_with (bytes_of m) l)) none,
-      ap (λ (f : MemStore). ends (frames_with (device.bytes_of f) pairs)) c.replace-before.ensures.after,
+      ap (λ (f : MemStore). ends (frames_with (device.bytes_of f) pairs))
+          c.replace-before.ensures.after,
     )
 
 pub returns-then-next_fails-clause-cause : goal.returns-then-next_fails-clause-cause
