@@ -1,19 +1,20 @@
--- Whether a pair that was picked has a key, found by fingerprints.
-use Rattle.std.proofs.Common.{◌≡◌, ◌≢◌, ◌≤◌, ◌<◌, inl, inr, ℕ, ◌+◌, Bool, true, false, List, [], ◌∷◌, length, get_or, Option, Some, None, refl, sym, ◌∙◌, ap, arith}
-use Rattle.std.specs.Prelude.{◌||◌, reverse, slice_get, bytes_eq, IfSome, IfNone}
+-- Whether a pair that was picked has a key, found by digests.
+use Rattle.std.proofs.Common.{◌≡◌, ◌≢◌, ◌≤◌, ◌<◌, inl, inr, ℕ, ◌+◌, Bool, true, false, not, List, [], ◌∷◌, ◌++◌, length, get_or, Option, Some, None, refl, sym, ◌∙◌, ap, arith, length-append}
+use Rattle.std.specs.Prelude.{◌||◌, reverse, slice_get, bytes_eq, is_some, IfSome, IfNone}
 use Rattle.std.specs.Option.{option_map_or}
 use Rattle.std.specs.List.{list_any}
 use Rattle.std.proofs.lemmas.Bool.{cases_lt, cases_eq}
-use Rattle.std.proofs.lemmas.List.{reverse-append, length-map, get_or-map}
+use Rattle.std.proofs.lemmas.List.{reverse-append, length-map, get_or-map, get_or_append_left}
 use Rattle.std.proofs.lemmas.List.Folds.{list_any-append, list_any_at, list_any_none}
 use Rattle.std.proofs.lemmas.Grind.{get_or_default_zero}
-use Rattle.std.proofs.lemmas.Option.{slice_get-get_or}
+use Rattle.std.proofs.lemmas.Option.{slice_get-get_or, slice_get_within, get_or_from_slice_get}
 use Rattle.std.proofs.lemmas.Slice.Eq.{bytes_eq-Decides}
 use Rattle.sha2.specs.Sha256.{sha256}
 use Rattle.print_index.specs.Digests.{IsLastBelow, NoneBelow}
 use Rattle.cache_api.specs.Pairs.{Pair}
 use Rattle.compact.specs.Chosen.{has_key}
-use Rattle.compact.specs.Picks.{pair_of, pairs_at, picked, prints_at}
+use Rattle.compact.specs.Quick.{quick_print}
+use Rattle.compact.specs.Picks.{pair_of, pairs_at, picked, key_at, Stands, IsDigestOf, IsApartAt}
 
 -- ---- in any order
 
@@ -33,9 +34,6 @@ any_reverse p (x ∷ xs) =
     ∙ ap (λ (b : Bool). p x || b) (any_reverse p xs)
 
 -- ---- the key of the pair with one of these numbers
-
-abbrev pub key_at : List Pair → List ℕ → ℕ → List ℕ
-key_at pairs numbers i = (pair_of pairs (get_or numbers i 0)).0
 
 at_place : (pairs : List Pair) (numbers : List ℕ) (i : ℕ) (d : Pair) → i < length numbers
     → get_or (pairs_at pairs numbers) i d ≡ pair_of pairs (get_or numbers i 0)
@@ -76,74 +74,122 @@ key_missing pairs numbers key apart =
     ap (λ (p : Pair). bytes_eq p.0 key) (at_place pairs numbers k d inside)
     ∙ other_bytes (key_at pairs numbers k) key (apart k inside))
 
--- ---- by fingerprints
+-- ---- by digests
 
-print_there : (pairs : List Pair) (numbers : List ℕ) (i : ℕ) (key : List ℕ) → i < length numbers
-    → key_at pairs numbers i ≡ key → slice_get (prints_at pairs numbers) i ≡ Some (sha256 key)
-print_there pairs numbers i key lt is =
-    let print = λ (n : ℕ). sha256 (pair_of pairs n).0 in
-    slice_get-get_or (prints_at pairs numbers) i [] (omega (arith, lt, length-map numbers print))
-    ∙ ap (λ (l : List ℕ). Some l) (get_or-map print numbers i 0 [] lt)
-    ∙ ap (λ (k : List ℕ). Some (sha256 k)) is
-
--- the place of a fingerprint is not passed, and behind it none of them has the key
-pub record IsLeftAt (pairs : List Pair) (numbers : List ℕ) (digests : List (List ℕ)) (key : List ℕ)
-    (place : ℕ) : Type 0 where
-  pub print : slice_get digests place ≡ Some (sha256 key)
-  pub behind : (i : ℕ) → place < i → i < length numbers → key_at pairs numbers i ≢ key
+-- the place of a digest is not passed, and behind it none with the digest has the key
+pub record IsLeftAt (pairs : List Pair) (numbers : List ℕ) (digests : List (List ℕ))
+    (digest key : List ℕ) (place : ℕ) : Type 0 where
+  pub same : slice_get digests place ≡ Some digest
+  pub behind : (i : ℕ) → place < i → i < length numbers → slice_get digests i ≡ Some digest
+      → key_at pairs numbers i ≢ key
 
 -- from that place down
-abbrev pub IsLeft : List Pair → List ℕ → List (List ℕ) → List ℕ → Option ℕ → Type 0
-IsLeft pairs numbers digests key None = IsApart pairs numbers key
-IsLeft pairs numbers digests key (Some place) = IsLeftAt pairs numbers digests key place
+abbrev pub IsLeft : List Pair → List ℕ → List (List ℕ) → List ℕ → List ℕ → Option ℕ → Type 0
+IsLeft pairs numbers digests digest key None = IsApartAt pairs numbers digests digest key
+IsLeft pairs numbers digests digest key (Some place) =
+    IsLeftAt pairs numbers digests digest key place
 
 -- what is known below a place
 abbrev pub IsNextBelow : List (List ℕ) → ℕ → List ℕ → Option ℕ → Type 0
-IsNextBelow digests limit print None = NoneBelow digests limit print
-IsNextBelow digests limit print (Some place) = IsLastBelow digests limit print place
+IsNextBelow digests limit digest None = NoneBelow digests limit digest
+IsNextBelow digests limit digest (Some place) = IsLastBelow digests limit digest place
 
-module _ (pairs : List Pair) (numbers : List ℕ) (digests : List (List ℕ)) (key : List ℕ)
-    (are : digests ≡ prints_at pairs numbers) where
-  not_there : (i : ℕ) → i < length numbers → slice_get digests i ≢ Some (sha256 key)
-      → key_at pairs numbers i ≢ key
-  not_there i lt other is =
-      other (ap (λ (l : List (List ℕ)). slice_get l i) are ∙ print_there pairs numbers i key lt is)
+module _ (pairs : List Pair) (numbers : List ℕ) (digests : List (List ℕ)) (digest key : List ℕ)
+  where
+    -- at first
+    pub left_first : (next : Option ℕ) (limit : ℕ) → limit ≡ length numbers
+        → IsNextBelow digests limit digest next → IsLeft pairs numbers digests digest key next
+    left_first None limit is none =
+        λ i lt at same. none i (omega (arith, lt, is)) at
+    left_first (Some place) limit is last = record {
+      same = last.same;
+      behind = λ i behind lt at same. last.later i behind (omega (arith, lt, is)) at;
+    }
 
-  -- at first
-  pub left_first : (next : Option ℕ) (limit : ℕ) → limit ≡ length numbers
-      → IsNextBelow digests limit (sha256 key) next → IsLeft pairs numbers digests key next
-  left_first None limit is none =
-      λ i lt. not_there i lt (none i (omega (arith, lt, is)))
-  left_first (Some place) limit is last = record {
-    print = last.same;
-    behind = λ i behind lt. not_there i lt (last.later i behind (omega (arith, lt, is)));
-  }
-
-  -- and once the key of a place was compared
-  pub left_next : (next : Option ℕ) (place : ℕ) → IsLeftAt pairs numbers digests key place
-      → key_at pairs numbers place ≢ key → IsNextBelow digests place (sha256 key) next
-      → IsLeft pairs numbers digests key next
-  left_next None place x other none = λ i lt is. elim (cases_lt i place) [
-    | inl below ↦ not_there i lt (none i below) is
-    | inr le ↦ elim (cases_eq i place) [
-      | inl here ↦ other (ap (key_at pairs numbers) (sym here) ∙ is)
-      | inr apart ↦
-          let lt' : place < i = omega (arith, le, apart) in
-          x.behind i lt' lt is
-    ]
-  ]
-  left_next (Some p) place x other last = record {
-    print = last.same;
-    behind = λ i behind lt is. elim (cases_lt i place) [
-      | inl below ↦ not_there i lt (last.later i behind below) is
+    -- and once the key of a place was compared
+    pub left_next : (next : Option ℕ) (place : ℕ)
+        → IsLeftAt pairs numbers digests digest key place → key_at pairs numbers place ≢ key
+        → IsNextBelow digests place digest next → IsLeft pairs numbers digests digest key next
+    left_next None place x other none = λ i lt at is. elim (cases_lt i place) [
+      | inl below ↦ none i below at
       | inr le ↦ elim (cases_eq i place) [
         | inl here ↦ other (ap (key_at pairs numbers) (sym here) ∙ is)
         | inr apart ↦
             let lt' : place < i = omega (arith, le, apart) in
-            x.behind i lt' lt is
+            x.behind i lt' lt at is
       ]
-    ];
-  }
+    ]
+    left_next (Some p) place x other last = record {
+      same = last.same;
+      behind = λ i behind lt at is. elim (cases_lt i place) [
+        | inl below ↦ last.later i behind below at
+        | inr le ↦ elim (cases_eq i place) [
+          | inl here ↦ other (ap (key_at pairs numbers) (sym here) ∙ is)
+          | inr apart ↦
+              let lt' : place < i = omega (arith, le, apart) in
+              x.behind i lt' lt at is
+        ]
+      ];
+    }
+
+-- ---- each has a digest of its key
+
+-- this digest stands at no place
+abbrev pub IsMissing : List (List ℕ) → List ℕ → Type 0
+IsMissing digests digest = NoneBelow digests (length digests) digest
+
+module _ (pairs : List Pair) (numbers : List ℕ) (digests : List (List ℕ)) (key : List ℕ)
+    (even : length digests ≡ length numbers)
+    (are : (place : ℕ) → place < length numbers → IsDigestOf digests (key_at pairs numbers place) (get_or digests place []))
+  where
+    stands_at : (i : ℕ) (digest : List ℕ) → i < length numbers → get_or digests i [] ≡ digest
+        → slice_get digests i ≡ Some digest
+    stands_at i digest lt is =
+        slice_get-get_or digests i [] (omega (arith, lt, even)) ∙ ap (λ (l : List ℕ). Some l) is
+
+    -- none has the key where none has its quick print
+    pub apart_missing : IsMissing digests (quick_print key) → IsApart pairs numbers key
+    apart_missing none i lt is = elim (are i lt) [
+      | inl quick ↦
+          none i (omega (arith, lt, even)) (stands_at i (quick_print key) lt (quick ∙ ap quick_print is))
+      | inr rest ↦
+          let place = rest.1.0 in
+          let at : slice_get digests place ≡ Some (quick_print key) = rest.1.1 ∙ ap (λ (k : List ℕ). Some (quick_print k)) is in
+          none place (slice_get_within digests place (quick_print key) at) at
+    ]
+
+    -- or where none with its quick print or its SHA-256 has it
+    pub apart_both : IsApartAt pairs numbers digests (quick_print key) key
+        → IsApartAt pairs numbers digests (sha256 key) key → IsApart pairs numbers key
+    apart_both quick hashed i lt is = elim (are i lt) [
+      | inl same ↦ quick i lt (stands_at i (quick_print key) lt (same ∙ ap quick_print is)) is
+      | inr rest ↦ hashed i lt (stands_at i (sha256 key) lt (rest.0 ∙ ap sha256 is)) is
+    ]
+
+-- where an index has no place of it
+pub none_of : (next : Option ℕ) (b : Bool) (A : Type 0) → is_some next ≡ not b → b ≡ true
+    → IfNone next A → A
+none_of None b A is none x = x
+none_of (Some place) b A is none x =
+    let other = is ∙ ap not none in
+    absurd (cc other)
+
+-- ---- one more digest
+
+stands_grown : (digests more : List (List ℕ)) (digest : List ℕ) → Stands digests digest
+    → Stands (digests ++ more) digest
+stands_grown digests more digest (place, at) =
+    let lt = slice_get_within digests place digest at in (
+      place,
+      slice_get-get_or (digests ++ more) place [] (omega (arith, lt, length-append digests more))
+          ∙ ap (λ (l : List ℕ). Some l) (get_or_append_left digests more [] place lt ∙ get_or_from_slice_get digests place digest [] at),
+    )
+
+pub digest_grown : (digests more : List (List ℕ)) (key digest : List ℕ)
+    → IsDigestOf digests key digest → IsDigestOf (digests ++ more) key digest
+digest_grown digests more key digest (inl quick) = inl quick
+digest_grown digests more key digest (inr (hashed, stands)) =
+    inr (hashed, stands_grown digests more (quick_print key) stands)
 
 -- ---- answers of the index
 

@@ -1,10 +1,10 @@
 -- Pairs that are picked one after another.
-use Rattle.std.proofs.Common.{◌≡◌, ◌≤◌, ◌<◌, ℕ, ◌+◌, true, false, List, [], ◌∷◌, ◌++◌, length, map, drop, Option, Some, None, refl, sym, ◌∙◌, ap, subst, arith, length-append}
+use Rattle.std.proofs.Common.{◌≡◌, ◌≤◌, ◌<◌, inl, inr, ℕ, ◌+◌, true, false, List, [], ◌∷◌, ◌++◌, length, drop, get_or, Option, Some, None, refl, sym, ◌∙◌, ap, subst, arith, length-append}
 use Rattle.std.specs.Prelude.{All, reverse}
-use Rattle.std.proofs.lemmas.Bool.{leb-true, leb-false}
-use Rattle.std.proofs.lemmas.List.{map-append, length-map, length-reverse, drop_all, reverse-append}
+use Rattle.std.proofs.Math.Seq.{get_or-append_seam}
+use Rattle.std.proofs.lemmas.Bool.{cases_lt, leb-true, leb-false}
+use Rattle.std.proofs.lemmas.List.{length-map, length-reverse, drop_all, reverse-append, get_or_append_left}
 use Rattle.std.proofs.lemmas.List.Elements.{All-append, All-cons, All-nil, All-head, All-tail}
-use Rattle.sha2.specs.Sha256.{sha256}
 use Rattle.store_dev.specs.declared.device.StoreDevice.{Ghosts}
 use Rattle.cache_api.specs.Pairs.{Pair}
 use Rattle.artifact_store.specs.declared.store.Store.{Store}
@@ -12,7 +12,9 @@ use Rattle.artifact_store.specs.Store.{state_of, count_in, OnlyReadsStore}
 use Rattle.artifact_store.proofs.Carry.{reads_both}
 use Rattle.compact.specs.declared.picks.Picks.{Picks}
 use Rattle.compact.specs.Chosen.{chosen}
-use Rattle.compact.specs.Picks.{ArePicks, pair_of, pairs_at, picked, picked_with, prints_at, is_enough}
+use Rattle.compact.specs.Picks.{ArePicks, pair_of, pairs_at, picked, picked_with, is_enough}
+use Rattle.compact.specs.Picks.{key_at, IsDigestOf}
+use Rattle.compact.proofs.Keys.{digest_grown}
 use Rattle.compact.proofs.Choosing.{worthy, worthy_from, chosen_some, chosen_all, IsAtMost, map-reverse}
 use Rattle.compact.proofs.Seeking.{IsPicking, reads_none, pairs_read, count_read}
 
@@ -40,23 +42,49 @@ all_reverse P (x ∷ xs) all =
     (All-append P (reverse xs) (x ∷ []) (all_reverse P xs (All-tail P x xs all))
     (All-cons P x [] (All-head P x xs all) (All-nil P)))
 
+-- one number more with a digest of its key
+digests_pushed : (pairs : List Pair) (numbers : List ℕ) (digests : List (List ℕ)) (n : ℕ)
+    (digest : List ℕ) → length digests ≡ length numbers
+    → ((place : ℕ) → place < length numbers → IsDigestOf digests (key_at pairs numbers place) (get_or digests place []))
+    → IsDigestOf digests (pair_of pairs n).0 digest
+    → (place : ℕ) → place < length (numbers ++ n ∷ [])
+    → IsDigestOf (digests ++ digest ∷ []) (key_at pairs (numbers ++ n ∷ []) place)
+    (get_or (digests ++ digest ∷ []) place [])
+digests_pushed pairs numbers digests n digest even are new place inside = elim (cases_lt place (length numbers)) [
+  | inl lt ↦
+      let number : get_or (numbers ++ n ∷ []) place 0 ≡ get_or numbers place 0 = get_or_append_left numbers (n ∷ []) 0 place lt in
+      let there : get_or (digests ++ digest ∷ []) place [] ≡ get_or digests place [] = get_or_append_left digests (digest ∷ []) [] place (omega (arith, lt, even)) in
+      subst (λ (m : ℕ). IsDigestOf (digests ++ digest ∷ []) (pair_of pairs m).0 (get_or (digests ++ digest ∷ []) place [])) (sym number)
+      (subst (λ (d : List ℕ). IsDigestOf (digests ++ digest ∷ []) (key_at pairs numbers place) d) (sym there)
+      (digest_grown digests (digest ∷ []) (key_at pairs numbers place) (get_or digests place []) (are place lt)))
+  | inr le ↦
+      let at : place ≡ length numbers = omega (arith, le, inside, length-append numbers (n ∷ [])) in
+      let number : get_or (numbers ++ n ∷ []) place 0 ≡ n = ap (λ (i : ℕ). get_or (numbers ++ n ∷ []) i 0) at ∙ get_or-append_seam numbers n [] 0 in
+      let there : get_or (digests ++ digest ∷ []) place [] ≡ digest = ap (λ (i : ℕ). get_or (digests ++ digest ∷ []) i []) (at ∙ sym even) ∙ get_or-append_seam digests digest [] [] in
+      subst (λ (m : ℕ). IsDigestOf (digests ++ digest ∷ []) (pair_of pairs m).0 (get_or (digests ++ digest ∷ []) place [])) (sym number)
+      (subst (λ (d : List ℕ). IsDigestOf (digests ++ digest ∷ []) (pair_of pairs n).0 d) (sym there)
+      (digest_grown digests (digest ∷ []) (pair_of pairs n).0 digest new))
+]
+
 module _ {S : Type 0} {G : Ghosts S} where
   -- one more
-  pub picks_pushed : (store : Store S G) (old new : Picks) (n : ℕ) (print : List ℕ)
+  pub picks_pushed : (store : Store S G) (old new : Picks) (n : ℕ) (digest : List ℕ)
       → ArePicks store old
       → new.numbers.items ≡ old.numbers.items ++ n ∷ []
-      → new.prints.digests ≡ old.prints.digests ++ print ∷ [] → n < count_in store
-      → (G.tells → print ≡ sha256 (pair_of (state_of store).pairs n).0) → ArePicks store new
-  picks_pushed store old new n print x numbers prints lt told = record {
-    even = omega (arith, x.even, ap length numbers, ap length prints, length-append old.numbers.items (n ∷ []), length-append old.prints.digests (print ∷ []));
+      → new.prints.digests ≡ old.prints.digests ++ digest ∷ [] → n < count_in store
+      → (G.tells → IsDigestOf old.prints.digests (pair_of (state_of store).pairs n).0 digest)
+      → ArePicks store new
+  picks_pushed store old new n digest x numbers prints lt told = record {
+    even = omega (arith, x.even, ap length numbers, ap length prints, length-append old.numbers.items (n ∷ []), length-append old.prints.digests (digest ∷ []));
     below = subst (λ l. All (λ m. m < count_in store) l) (sym numbers)
         (All-append (λ m. m < count_in store) old.numbers.items (n ∷ []) x.below
         (All-cons (λ m. m < count_in store) n [] lt (All-nil (λ m. m < count_in store))));
-    prints = λ tells.
+    prints = λ tells place inside.
         let pairs = (state_of store).pairs in
-        let one = λ (m : ℕ). sha256 (pair_of pairs m).0 in
-        prints ∙ (λ i. x.prints tells i ++ told tells i ∷ [])
-        ∙ sym (map-append one old.numbers.items (n ∷ [])) ∙ ap (map one) (sym numbers);
+        let inside' : place < length (old.numbers.items ++ n ∷ []) = subst (λ (l : List ℕ). place < length l) numbers inside in
+        subst (λ (l : List ℕ). IsDigestOf new.prints.digests (key_at pairs l place) (get_or new.prints.digests place [])) (sym numbers)
+        (subst (λ (l : List (List ℕ)). IsDigestOf l (key_at pairs (old.numbers.items ++ n ∷ []) place) (get_or l place [])) (sym prints)
+        (digests_pushed pairs old.numbers.items old.prints.digests n digest x.even (x.prints tells) (told tells) place inside'));
   }
 
   -- of a store that was read since
@@ -65,8 +93,9 @@ module _ {S : Type 0} {G : Ghosts S} where
   picks_read a b picks reads x = record {
     even = x.even;
     below = subst (λ (n : ℕ). All (λ m. m < n) picks.numbers.items) (count_read a b reads) x.below;
-    prints = λ tells. x.prints tells
-        ∙ ap (λ (l : List Pair). prints_at l picks.numbers.items) (pairs_read a b reads);
+    prints = λ tells place inside.
+        subst (λ (l : List Pair). IsDigestOf picks.prints.digests (key_at l picks.numbers.items place) (get_or picks.prints.digests place []))
+        (pairs_read a b reads) (x.prints tells place inside);
   }
 
   pub picks_still : (a b : Store S G) (picks : Picks) → OnlyReadsStore a b → ArePicks a picks
@@ -74,8 +103,9 @@ module _ {S : Type 0} {G : Ghosts S} where
   picks_still a b picks reads x = record {
     even = x.even;
     below = subst (λ (n : ℕ). All (λ m. m < n) picks.numbers.items) (sym (count_read a b reads)) x.below;
-    prints = λ tells. x.prints tells
-        ∙ ap (λ (l : List Pair). prints_at l picks.numbers.items) (sym (pairs_read a b reads));
+    prints = λ tells place inside.
+        subst (λ (l : List Pair). IsDigestOf picks.prints.digests (key_at l picks.numbers.items place) (get_or picks.prints.digests place []))
+        (sym (pairs_read a b reads)) (x.prints tells place inside);
   }
 
   -- before the first
@@ -90,7 +120,9 @@ module _ {S : Type 0} {G : Ghosts S} where
     are = record {
       even = ap length prints ∙ sym (ap length numbers);
       below = subst (λ l. All (λ m. m < count_in store) l) (sym numbers) (All-nil (λ m. m < count_in store));
-      prints = λ tells. prints ∙ ap (prints_at (state_of store).pairs) (sym numbers);
+      prints = λ tells place inside.
+          let none : place < 0 = subst (λ (l : List ℕ). place < length l) numbers inside in
+          absurd (omega (arith, none));
     };
     most = subst (λ l. IsAtMost keep (length l)) (sym numbers) (none keep);
     picked = λ tells.

@@ -29,12 +29,12 @@ module _ {S : Type 0} {G : Ghosts S} where
 
 -- while a key is sought among pairs that were picked
 pub record IsSeeking {S : Type 0} {G : Ghosts S} (first now : Store S G) (picks : Picks)
-    (key : List ℕ) (next : Option ℕ) : Type 0 where
+    (digest key : List ℕ) (next : Option ℕ) : Type 0 where
   pub reads : OnlyReadsStore first now
   pub faults : (state_of now).faults ≡ (state_of first).faults
   pub inside : IfSome next (λ place. place < length picks.prints.digests)
   pub left : G.tells
-      → IsLeft (state_of first).pairs picks.numbers.items picks.prints.digests key next
+      → IsLeft (state_of first).pairs picks.numbers.items picks.prints.digests digest key next
 
 -- while pairs are picked, from the last to the first
 pub record IsPicking {S : Type 0} {G : Ghosts S} (first now : Store S G) (keep : Option ℕ)

@@ -4,5 +4,6 @@ pub mod Current
 pub mod Room
 pub mod Answers
 pub mod Left
+pub mod Quick
 pub mod Picks
 pub mod Sources

@@ -1,14 +1,15 @@
 // Which pairs of a store are kept.
-ghost use Rattle.sha2.specs.Sha256.{sha256};
 ghost use Rattle.std.specs.Prelude.{◌≡◌, ◌<◌, ◌≤◌, ◌+◌, [], length, bytes_eq, All, IsTrue, IfOk};
-ghost use Rattle.std.specs.Prelude.{IfErr, OnOk};
+ghost use Rattle.std.specs.Prelude.{true, false, IfErr, IfSome, IfNone, OnOk};
 ghost use Rattle.rel_path.specs.Causes.{Counts};
 ghost use Rattle.cache_api.specs.Cache.{is_fault, IsFindErr};
 ghost use Rattle.artifact_store.specs.Store.{state_of, count_in, OnlyReadsStore};
 ghost use Rattle.compact.specs.Chosen.{chosen, has_key};
 ghost use Rattle.compact.specs.Picks.{ArePicks, pair_of, pairs_at, picked, picked_with};
+ghost use Rattle.compact.specs.Picks.{IsDigestOf, IsApartAt};
 
 use crate::picks::Picks;
+use crate::quick::quick_print;
 use artifact_store::Store;
 use cache_api::{Artifact, CacheErr};
 use sha2::{Digest, Sha256};
@@ -96,34 +97,69 @@ fn pick<S: StoreDevice>(
     let Some(_) = Artifact::read(alloc, value.as_slice())? else {
         return Ok(());
     };
-    let print = Sha256::digest(key.as_slice());
-    if is_picked(alloc, from, picks, key.as_slice(), &print)? {
+    let Some(digest) = new_digest(alloc, from, picks, key.as_slice())? else {
         return Ok(());
-    }
-    picks.push(number, print)?;
+    };
+    picks.push(number, digest)?;
     Ok(())
 }
 
-/// Whether a pair that was picked has that key, whose fingerprint is given. Of those with the same
-/// one the keys are compared whole.
-fn is_picked<S: StoreDevice>(
+/// By which digest a pair with that key is to be found, where none that was picked has the key.
+/// Most keys have a quick print that no other has. A key whose quick print another has is hashed,
+/// so that however keys were made, it is compared with few.
+fn new_digest<S: StoreDevice>(
     alloc: Global,
     from: &mut Store<S>,
     picks: &Picks,
     key: &[u8],
-    print: &[u8; 32],
-) -> Result<bool, CacheErr>
+) -> Result<Option<[u8; 32]>, CacheErr>
     requires whole { IsTrue (state_of from.old).whole }
     requires picks { ArePicks from.old picks.now }
-    requires print { print.now ≡ sha256 key.now }
-    ensures value { S.tells → IfOk result (λ b.
-        b ≡ has_key key.now (picked (state_of from.old).pairs picks.now.numbers.items)) }
+    ensures none { S.tells → IfOk result (λ o. IfNone o
+        (has_key key.now (picked (state_of from.old).pairs picks.now.numbers.items) ≡ true)) }
+    ensures some { S.tells → IfOk result (λ o. IfSome o (λ digest.
+        has_key key.now (picked (state_of from.old).pairs picks.now.numbers.items) ≡ false)) }
+    ensures digest { IfOk result (λ o. IfSome o (IsDigestOf picks.now.prints.digests key.now)) }
     ensures reads { OnlyReadsStore from.old from.new }
     ensures answers { IfErr result IsFindErr }
     ensures cause { Counts is_fault (state_of from.old).faults
         (state_of from.new).faults result }
 {
-    let mut next = picks.prints.last(print);
+    let quick = quick_print(key);
+    if picks.prints.last(&quick).is_none() {
+        return Ok(Some(quick));
+    }
+    if is_picked(alloc, from, picks, key, &quick)? {
+        return Ok(None);
+    }
+    let digest = Sha256::digest(key);
+    if is_picked(alloc, from, picks, key, &digest)? {
+        return Ok(None);
+    }
+    Ok(Some(digest))
+}
+
+/// Whether a pair that was picked and has that digest has that key. Keys are compared whole.
+fn is_picked<S: StoreDevice>(
+    alloc: Global,
+    from: &mut Store<S>,
+    picks: &Picks,
+    key: &[u8],
+    digest: &[u8; 32],
+) -> Result<bool, CacheErr>
+    requires whole { IsTrue (state_of from.old).whole }
+    requires picks { ArePicks from.old picks.now }
+    ensures found { S.tells → IfOk result (λ b. b ≡ true
+        → has_key key.now (picked (state_of from.old).pairs picks.now.numbers.items) ≡ true) }
+    ensures apart { S.tells → IfOk result (λ b. b ≡ false
+        → IsApartAt (state_of from.old).pairs picks.now.numbers.items picks.now.prints.digests
+        digest.now key.now) }
+    ensures reads { OnlyReadsStore from.old from.new }
+    ensures answers { IfErr result IsFindErr }
+    ensures cause { Counts is_fault (state_of from.old).faults
+        (state_of from.new).faults result }
+{
+    let mut next = picks.prints.last(digest);
     while let Some(place) = next {
         let number = picks.numbers[place as usize];
         let same = is_key_of(alloc, from, number, key)?;

@@ -34,6 +34,7 @@ mod held;
 mod kept;
 mod laws;
 mod picks;
+mod quick;
 mod renewal;
 mod side;
 mod source;

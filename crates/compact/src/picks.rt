@@ -5,7 +5,7 @@ ghost use Rattle.compact.specs.Picks.{is_enough};
 use print_index::PrintIndex;
 use std::alloc::{AllocError, Global};
 
-/// Numbers of pairs, and by each number of them the fingerprint of its pair's key.
+/// Numbers of pairs, and by each place among them a digest of its pair's key.
 #[derive(Drop)]
 pub(crate) struct Picks {
     pub(crate) numbers: Vec<u64>,
@@ -34,15 +34,15 @@ impl Picks {
         }
     }
 
-    /// Adds the number of a pair whose key has that fingerprint.
-    pub(crate) fn push(&mut self, number: u64, print: [u8; 32]) -> Result<(), AllocError>
+    /// Adds the number of a pair whose key has that digest.
+    pub(crate) fn push(&mut self, number: u64, digest: [u8; 32]) -> Result<(), AllocError>
         ensures numbers { OnOk result
             (self.new.numbers.items ≡ self.old.numbers.items ++ number ∷ []) }
         ensures prints { OnOk result
-            (self.new.prints.digests ≡ self.old.prints.digests ++ print ∷ []) }
+            (self.new.prints.digests ≡ self.old.prints.digests ++ digest ∷ []) }
     {
         self.numbers.push(number)?;
-        self.prints.push(print)?;
+        self.prints.push(digest)?;
         Ok(())
     }
 }
