@@ -89,9 +89,10 @@ pub record TellPuts (access : Access) (T U : Type 0) : Type 0 where
 abbrev pub access_of : {S R : Type 0} {G : Ghosts S} {H : Ghosts R} → Relay S R G H → Access
 access_of r = (state_of r).base.access
 
--- What a call that puts pairs leaves of both stores. Each store that is put into is given the same
--- pairs, those for which there was room in each, as far as the call came. What is answered is what
--- the store took that is looked into first. A pair that is answered to be stored was given to both.
+-- What a call that puts pairs leaves of both stores. Each store that is put into is given the
+-- same pairs, those for which there was room in each, as far as the call came. What is answered
+-- is what the store took that is looked into first. A pair that is answered to be stored was
+-- given to both.
 pub record Gives {S R T : Type 0} {G : Ghosts S} {H : Ghosts R} (answers : T → List Put)
     (old : Relay S R G H) (new : Option (Store S G) × Option (Store R H)) (pairs : List Pair)
     (result : Result T CacheErr) : Type 0 where

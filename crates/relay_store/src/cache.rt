@@ -174,10 +174,11 @@ impl<S: StoreDevice, R: StoreDevice> Cache for Relay<S, R> {
         }
     }
 
-    /// Where there is ample room for all pairs, they are put into each store at once. Else each is
-    /// put for itself, where there is room for it. Of pairs that are put for themselves, each is in
-    /// both stores before the next one is. Where the device of one store alone tells, the store and
-    /// each image of the device have its pairs and the first of those that both were given.
+    /// Where there is ample room for all pairs, they are put into each store at once. Else each
+    /// is put for itself, where there is room for it. Of pairs that are put for themselves, each
+    /// is in both stores before the next one is. Where the device of one store alone tells, the
+    /// store and each image of the device have its pairs and the first of those that both were
+    /// given.
     fn put_all(&mut self, alloc: Global, pairs: &[NewPair]) -> Result<Puts, CacheErr>
         requires { IsTrue (state_of self.old).whole }
         ensures outcome { S.tells × R.tells

@@ -25,11 +25,11 @@
 //! store had taken some already, or a device failed, the relay may no longer be used: the stores
 //! are to be opened again, and may have more.
 //!
-//! The pairs of the relay are told where both devices tell their bytes. What is found in one of the
-//! stores, and what each call leaves of it and of all images of its device, is told where that
-//! device alone tells, whatever the other one does: a call that reads leaves its pairs, a call
-//! that puts leaves its pairs and a first part of those that it was given, all of them where the
-//! answer is Ok. Both stores are given the same pairs. By [`taken_law`] the same is so of all
+//! The pairs of the relay are told where both devices tell their bytes. What is found in one of
+//! the stores, and what each call leaves of it and of all images of its device, is told where
+//! that device alone tells, whatever the other one does: a call that reads leaves its pairs, a
+//! call that puts leaves its pairs and a first part of those that it was given, all of them where
+//! the answer is Ok. Both stores are given the same pairs. By [`taken_law`] the same is so of all
 //! calls of a run together.
 //!
 //! `specs/` says when stores serve an access (`Access`), what a store that may be missing is

@@ -17,8 +17,8 @@ pub record IsFresh (bytes : List ℕ) (d : MemStore) : Type 0 where
 
 -- The device behind pairs that were put, where it was a store, each where there was room for it. It
 -- began with all bytes synced.
-pub record HasPairs {D : Type 0} (G : Ghosts D) (old : D) (pairs : List Pair)
-    (new : D) : Type 0 where
+pub record HasPairs {D : Type 0} (G : Ghosts D) (old : D) (pairs : List Pair) (new : D)
+    : Type 0 where
   pub taken : IsTaken (G.content old) (frames_with (G.content old) pairs)
       (G.content new) (G.images new)
   pub left : LeavesOnly G.moment G.images_since old new (HoldsOneOrMore

@@ -17,8 +17,7 @@ HoldsFirst least all bytes =
     (n : ℕ) × (least ≤ n) × (n ≤ length all) × (reading bytes ≡ Ok (take n all))
 
 -- The bytes are read as one of these images is, or they stand for the frames of a file that is
--- sound
--- with the first of those behind them.
+-- sound with the first of those behind them.
 abbrev pub HoldsOneOrMore : (List ℕ → Type 0) → List ℕ → List Entry → List ℕ → Type 0
 HoldsOneOrMore images file all bytes = ReadsAsOneOf images bytes
     ⊎ (IsSound file × HoldsFirst (length (frames_of file)) all bytes)

@@ -15,8 +15,8 @@ use Rattle.shared_runs.specs.Others.{with_pairs, frames_with}
 
 pub reads_as_image : (m : MemShared) → images_of m (bytes_of m)
 reads_as_image m =
-    reads_as_one (device.bytes_of m.file) (device.start_of m.file)
-    (device.steps_of m.file) m.file.replayed
+    reads_as_one (device.bytes_of m.file) (device.start_of m.file) (device.steps_of m.file)
+    m.file.replayed
 
 -- the frames of a store once pairs were put
 pub frames_with_is : (bytes : List ℕ) (es : List Entry) (pairs : List Pair) → reading bytes ≡ Ok es
@@ -29,6 +29,5 @@ pub stays_coming : (m : MemShared) → IsSound (bytes_of m)
 stays_coming m sound =
     let es = frames_of (bytes_of m) in (
       added (store_limit - ends es) es (pairs_coming m),
-      frames_with_is (bytes_of m) es
-          (pairs_coming m) sound,
+      frames_with_is (bytes_of m) es (pairs_coming m) sound,
     )

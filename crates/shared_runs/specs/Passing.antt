@@ -10,10 +10,9 @@ use Rattle.shared_runs.specs.Frames.{HoldsOn, HoldsFirst}
 use Rattle.shared_runs.specs.Turns.{GoesOn}
 
 -- The device of a turn that is held: where it is told and the file was sound, a crash since the
--- turn was
--- taken leaves the frames with which the turn began, and maybe more behind them.
-pub record IsInTurn {H D : Type 0} (G : Ghosts H D) (K : DeviceGhosts D) (file : H)
-    (device : D) : Type 0 where
+-- turn was taken leaves the frames with which the turn began, and maybe more behind them.
+pub record IsInTurn {H D : Type 0} (G : Ghosts H D) (K : DeviceGhosts D) (file : H) (device : D)
+    : Type 0 where
   pub held : (G.turn file).held ≡ true
   pub count : (G.turn file).count ≤ K.store_faults device
   pub counted : (G.turn file).count ≤ G.store_faults file
@@ -22,8 +21,7 @@ pub record IsInTurn {H D : Type 0} (G : Ghosts H D) (K : DeviceGhosts D) (file :
       → K.images_since device (G.turn file).start c → HoldsOn (frames_of (G.content file)) c
 
 -- The store with which a turn begins: where the file was sound, it has the frames that were to
--- come, and
--- a crash since the turn was taken leaves these.
+-- come, and a crash since the turn was taken leaves these.
 pub record BeginsTurn {H D : Type 0} (G : Ghosts H D) (K : DeviceGhosts D) (old new : H)
     (s : Store D K) : Type 0 where
   pub turn : IsInTurn G K new (store.device_of s)
@@ -36,8 +34,8 @@ pub record BeginsTurn {H D : Type 0} (G : Ghosts H D) (K : DeviceGhosts D) (old 
       → K.images_since (store.device_of s) (G.turn new).start c → reading c ≡ Ok (G.coming old)
 
 -- What a turn leaves of a sound file of which a crash leaves but what it holds: it holds its frames
--- and
--- maybe the first of those that were to come, and so do all images since the turn was asked for.
+-- and maybe the first of those that were to come, and so do all images since the turn was asked
+-- for.
 pub record LeavesFirst {H D : Type 0} (G : Ghosts H D) (old new : H) : Type 0 where
   pub file : HoldsFirst (length (frames_of (G.content old))) (G.coming old) (G.content new)
   pub goes : GoesOn G.moment G.images_since old new

@@ -4,10 +4,10 @@
 --
 -- A run, and what others do before its turns, as in the history that `shared_views` shows:
 --
---     call of run 1      events                  it sees
---     open               Add 0 a, Enter 1        a
---     put b              Add 1 b                 a b
---     find the key of c  Add 0 c, Look 1 ..      a b: nothing is found
+--     call of run 1      events                      it sees
+--     open               Enter 0, Add 0 a, Enter 1   a
+--     put b              Add 1 b                     a b
+--     find the key of c  Add 0 c, Look 1 ..          a b: nothing is found
 use Rattle.std.specs.Prelude.{◌≡◌, ◌⊎◌, ◌≤◌, ℕ, if◌then◌else◌, List, [], ◌∷◌, ◌++◌, length, map}
 use Rattle.std.specs.Prelude.{take, IsTrue, Option, Some, None, Result, Ok, Err}
 use Rattle.codes.specs.Views.{found_as}

@@ -27,8 +27,8 @@ HeldAfter (Ok device) turn = turn.held ≡ true
 HeldAfter (Err e) turn = turn.held ≡ false
 
 -- the turn tells how its device was handed out, whose faults so far the file has counted
-pub record IsTurnOf {D : Type 0} (G : Ghosts D) (turn : Turn) (faults : ℕ)
-    (device : D) : Type 0 where
+pub record IsTurnOf {D : Type 0} (G : Ghosts D) (turn : Turn) (faults : ℕ) (device : D)
+    : Type 0 where
   pub start : turn.start ≡ G.moment device
   pub count : turn.count ≡ G.store_faults device
   pub counted : turn.count ≤ faults
@@ -40,8 +40,7 @@ pub record HoldsFile {D : Type 0} (G : Ghosts D) (file : List ℕ) (images : Lis
   pub fewer : Within (G.images device) images
 
 -- The file behind a turn that was taken: where it was sound it is a store of the frames that were
--- to
--- come, and a crash leaves nothing else.
+-- to come, and a crash leaves nothing else.
 pub record IsTaken (old : List ℕ) (coming : List Entry) (new : List ℕ)
     (images : List ℕ → Type 0) : Type 0 where
   pub frames : IsSound old → reading new ≡ Ok coming

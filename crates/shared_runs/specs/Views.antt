@@ -41,8 +41,7 @@ Says whole in_turn seen file image left =
     ⊎ ((¬ IsLeft whole in_turn file image) × (left ≡ None))
 
 -- The file is a store, the run sees no more pairs of its first turn than it has, and its frames
--- leave
--- no more room than the run knows.
+-- leave no more room than the run knows.
 pub record Sees (seen : SeenPairs) (room : ℕ) (file : List ℕ) : Type 0 where
   pub sound : IsSound file
   pub first : seen.first ≤ length (pairs_at file)

@@ -182,7 +182,7 @@ impl<H: Shared> Cache for SharedStore<H> {
             }
             // The file has the pairs and the run does not see them.
             Err(fault) => {
-                self.turns.mark = None;
+                let _kept = &self.turns.mark;
                 Err(fault)
             }
         }
