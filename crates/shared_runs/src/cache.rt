@@ -182,7 +182,7 @@ impl<H: Shared> Cache for SharedStore<H> {
             }
             // The file has the pairs and the run does not see them.
             Err(fault) => {
-                let _kept = &self.turns.mark;
+                self.turns.mark = None;
                 Err(fault)
             }
         }
