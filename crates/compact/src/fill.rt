@@ -19,8 +19,9 @@ use cache_api::{Cache, CacheErr, Key, NewPair, Put};
 use std::alloc::{AllocError, Global};
 use store_dev::StoreDevice;
 
-/// The pairs of a batch want at most so much room, and have at most half as many bytes.
-const BATCH_ROOM: u64 = 1 << 27;
+/// The pairs of a batch want at most so much room, and have at most half as many bytes. For more
+/// at once memory is taken anew for each batch, and for less the disk is waited for more often.
+const BATCH_ROOM: u64 = 15 << 20;
 
 /// Pairs that are put together.
 #[derive(Drop)]
