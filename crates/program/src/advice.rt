@@ -2,7 +2,7 @@
 use cli_words::WordsErr;
 use os_edge::STORE_PATH;
 use rel_path::Text;
-use turbo_app::{Answer, CACHE_FORM, COMPACT_FORM, Refusal, SAMPLE_FORM, SHARED_FORM, StoreFile};
+use turbo_app::{Answer, CACHE_FORM, COMPACT_FORM, Refusal, SHARED_FORM, StoreFile};
 
 /// Says what the page leaves out: that memory was wanting, what to do about a store that is not read, which word was
 /// refused, and what is not built. Whether it could be printed is not answered.
@@ -37,7 +37,6 @@ fn say_not_built<R: Eprint>(rt: &R, form: u8) {
     let what = match form {
         CACHE_FORM => "--cache with any value but local:rw",
         SHARED_FORM => "--shared",
-        SAMPLE_FORM => "sample",
         COMPACT_FORM => "compact",
         _ => return,
     };

@@ -12,7 +12,7 @@ use Rattle.answers.specs.declared.answer.Answer.{Answer}
 use Rattle.answers.specs.Answers.{IsNothingBut}
 use Rattle.run_orders.specs.Asking.{IsRefusedRunOrder}
 use Rattle.prune_orders.specs.Asking.{IsRefusedPrune}
-use Rattle.turbo_app.specs.declared.unbuilt.TheConstants.{SAMPLE_FORM, COMPACT_FORM}
+use Rattle.turbo_app.specs.declared.unbuilt.TheConstants.{COMPACT_FORM}
 
 -- Why an order, or what is none, is refused. What is not built is refused before anything is read.
 abbrev pub IsRefusedOrder :
@@ -22,7 +22,7 @@ IsRefusedOrder (Ok (Run order)) env files stored reason =
     IsRefusedRunOrder order env files stored reason
 IsRefusedOrder (Ok (Prune targets docker)) env files stored reason =
     IsRefusedPrune targets files reason
-IsRefusedOrder (Ok (Sample size)) env files stored reason = reason ≡ refusal.NotBuilt SAMPLE_FORM
+IsRefusedOrder (Ok (Sample size)) env files stored reason = ⊥
 IsRefusedOrder (Ok (Compact keep)) env files stored reason = reason ≡ refusal.NotBuilt COMPACT_FORM
 IsRefusedOrder (Ok Help) env files stored reason = ⊥
 

@@ -1,4 +1,5 @@
 pub mod Asking
+pub mod Samples
 pub mod Outcomes
 pub mod Stops
 pub mod Images

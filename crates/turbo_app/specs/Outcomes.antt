@@ -13,7 +13,8 @@ use Rattle.answers.specs.Answers.{IfDone, IfRefused}
 use Rattle.answers.specs.Moments.{Moment}
 use Rattle.run_orders.specs.Outcomes.{RanOrder, MayChangeRun}
 use Rattle.prune_orders.specs.Outcomes.{LeavesRefused, PrunedAll, SameOutside}
-use Rattle.turbo_app.specs.declared.unbuilt.TheConstants.{SAMPLE_FORM, COMPACT_FORM}
+use Rattle.turbo_app.specs.declared.unbuilt.TheConstants.{COMPACT_FORM}
+use Rattle.sample.specs.Lines.{PutsSample}
 
 abbrev pub usage : List ℕ
 usage = codes "usage: turbo [run] <task>... [options] [-- words]\n"
@@ -33,13 +34,21 @@ pub record Pruned (docker : Bool) (targets : List (List ℕ)) (Heard : Type 0) (
   pub steps : new.steps ≡ old.steps
   pub stored : new.stored ≡ old.stored
 
+-- a sample: nothing but its lines
+pub record Sampled (size : ℕ) (Heard : Type 0) (old new : Moment) (status : ℕ) : Type 0 where
+  pub files : new.files ≡ old.files
+  pub steps : new.steps ≡ old.steps
+  pub stored : new.stored ≡ old.stored
+  pub page_is : Heard → PutsSample size old.printed new.printed
+  pub status_is : status ≡ 0
+
 abbrev pub DidOrder : Result Order WordsErr → Book → List (List ℕ × List ℕ) → Type 0 → Moment
     → Moment → ℕ → Type 0
 DidOrder (Err fault) book env Heard old new status = ⊥
 DidOrder (Ok Help) book env Heard old new status = Helped Heard old new status
 DidOrder (Ok (Prune targets docker)) book env Heard old new status =
     Pruned docker targets Heard old new status
-DidOrder (Ok (Sample size)) book env Heard old new status = ⊥
+DidOrder (Ok (Sample size)) book env Heard old new status = Sampled size Heard old new status
 DidOrder (Ok (Compact keep)) book env Heard old new status = ⊥
 DidOrder (Ok (Run order)) book env Heard old new status =
     RanOrder book order env Heard old new status
@@ -52,8 +61,8 @@ Did words book env Heard old new status =
 
 -- ---- what no device has a say in
 
--- Words that are no order are refused, help prints the line of usage, and what is not built is
--- refused, whatever the files, the store and the environment are.
+-- Words that are no order are refused, help prints the line of usage and a sample its lines, and
+-- what is not built is refused, whatever the files, the store and the environment are.
 abbrev pub AnsweredAlone : Result Order WordsErr → Type 0 → List ℕ → List ℕ → Answer → Type 0
 AnsweredAlone (Err fault) Heard before after answer =
     IfDone answer (λ _. ⊥) × IfRefused answer (λ reason. reason ≡ refusal.Words fault)
@@ -61,7 +70,8 @@ AnsweredAlone (Ok Help) Heard before after answer =
     IfDone answer (λ status. (status ≡ 0) × (Heard → after ≡ before ++ usage))
     × IfRefused answer (λ _. ⊥)
 AnsweredAlone (Ok (Sample size)) Heard before after answer =
-    IfDone answer (λ _. ⊥) × IfRefused answer (λ reason. reason ≡ refusal.NotBuilt SAMPLE_FORM)
+    IfDone answer (λ status. (status ≡ 0) × (Heard → PutsSample size before after))
+    × IfRefused answer (λ _. ⊥)
 AnsweredAlone (Ok (Compact keep)) Heard before after answer =
     IfDone answer (λ _. ⊥) × IfRefused answer (λ reason. reason ≡ refusal.NotBuilt COMPACT_FORM)
 AnsweredAlone (Ok (Prune targets docker)) Heard before after answer = ⊤

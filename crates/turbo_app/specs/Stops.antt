@@ -12,6 +12,7 @@ use Rattle.run_orders.specs.Stops.{StoppedRun}
 use Rattle.prune_orders.specs.Stops.{StoppedPrune}
 use Rattle.turbo_app.specs.Asking.{IsRefusedOrder}
 use Rattle.turbo_app.specs.Outcomes.{usage}
+use Rattle.turbo_app.specs.Samples.{StoppedSample}
 
 -- what a call leaves that was stopped
 abbrev pub StoppedBy : Result Order WordsErr → Book → List (List ℕ × List ℕ) → Type 0 → Moment
@@ -24,8 +25,7 @@ StoppedBy (Ok Help) book env Heard old new cause line =
 StoppedBy (Ok (Prune targets docker)) book env Heard old new cause line =
     StoppedPrune targets old.files old.printed new.printed cause line
 StoppedBy (Ok (Sample size)) book env Heard old new cause line =
-    CutsRefusal (IsRefusedOrder (Ok (Sample size)) env old.files old.stored) cause
-    old.printed new.printed
+    StoppedSample size old.printed new.printed cause line
 StoppedBy (Ok (Compact keep)) book env Heard old new cause line =
     CutsRefusal (IsRefusedOrder (Ok (Compact keep)) env old.files old.stored) cause
     old.printed new.printed

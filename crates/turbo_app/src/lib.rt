@@ -25,6 +25,7 @@
 
 mod help;
 mod laws;
+mod sampling;
 mod top;
 mod unbuilt;
 
@@ -33,4 +34,4 @@ pub use laws::{image_law, truth_law};
 pub use refusals::{Refusal, StoreFile};
 pub use run_orders::{CACHE_FORM, SHARED_FORM, run_order};
 pub use top::turbo;
-pub use unbuilt::{COMPACT_FORM, SAMPLE_FORM};
+pub use unbuilt::COMPACT_FORM;

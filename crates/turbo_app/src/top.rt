@@ -4,6 +4,7 @@ ghost use Rattle.store_dev.specs.Device.{LeavesOnly};
 ghost use Rattle.spawn_dev.specs.Spawn.{IsIdle};
 ghost use Rattle.refusals.specs.Refusals.{line_of, refusal_text};
 ghost use Rattle.answers.specs.Answers.{
+  Completes,
   IfDone,
   IfRefused,
   HasCauseIn,
@@ -29,7 +30,8 @@ ghost use Rattle.turbo_app.specs.Steps.{IsWordsRefusal};
 ghost use Rattle.turbo_app.specs.Stops.{Stopped};
 
 use crate::help::help;
-use crate::unbuilt::{COMPACT_FORM, SAMPLE_FORM};
+use crate::sampling::sampled;
+use crate::unbuilt::COMPACT_FORM;
 use answers::{Answer, refuse};
 use cli_words::{Order, WordsErr, width_law};
 use prune_orders::prune_order;
@@ -66,9 +68,9 @@ fn refuse_words<K: Sink>(alloc: Global, fault: WordsErr, out: &mut K) -> Answer
 /// An order to run makes a plan of the repository, opens the store, looks tasks up in it and runs
 /// the others, and prints the page as it comes; `--dry` says what a run would do. The first word
 /// `help`, or none, prints how the program is called. An order to prune writes the files that given
-/// packages need below `out`. What is not built is refused by its number before anything is read:
-/// orders to sample and to make the store smaller, and runs with `--shared` or a `--cache` other
-/// than `local:rw`.
+/// packages need below `out`. An order to sample runs over devices in memory, and prints what came.
+/// What is not built is refused by its number before anything is read: orders to make the store
+/// smaller, and runs with `--shared` or a `--cache` other than `local:rw`.
 ///
 /// A refusal's line is all that is printed; nothing was started then and nothing changed, but that
 /// an order to prune which is refused for a file that is too large leaves those in front of it.
@@ -102,6 +104,12 @@ pub fn turbo<W: Spawner, S: StoreDevice, K: Sink>(
         (K.written out.new))) }
     ensures lasts { S.tells → IfDone result.0 (λ _.
         Lasts words.now (S.content result.1) (S.images result.1)) }
+    // Where nothing is a reason to refuse, and no device failed.
+    ensures complete { W.tells → S.tells → Completes
+        (counts_at (W.state world.old) (W.runs world.old) (S.store_faults store) (K.faults out.old))
+        (counts_at (W.state world.new) (W.runs world.new) (S.store_faults result.1)
+        (K.faults out.new))
+        (IsRefused words.now env.now (W.state world.old).files (S.content store)) result.0 }
 
     // What was refused.
     ensures refused { W.tells → S.tells → IfRefused result.0
@@ -158,10 +166,7 @@ pub fn turbo<W: Spawner, S: StoreDevice, K: Sink>(
         Ok(Order::Prune { targets, docker }) => {
             (prune_order(alloc, &targets, docker, world, out), store)
         }
-        Ok(Order::Sample { size: _ }) => (
-            refuse(alloc, Refusal::NotBuilt { form: SAMPLE_FORM }, out),
-            store,
-        ),
+        Ok(Order::Sample { size }) => (sampled(alloc, size, out), store),
         Ok(Order::Compact { keep: _ }) => (
             refuse(alloc, Refusal::NotBuilt { form: COMPACT_FORM }, out),
             store,

@@ -1,0 +1,38 @@
+-- What stands between two runs: in the definitions, and in the devices in memory.
+use Rattle.std.specs.Prelude.{ℕ, List}
+use Rattle.rel_path.specs.Files.{FileMap}
+use Rattle.tree_dev.specs.declared.sink.MemSink.{MemSink}
+use Rattle.store_dev.specs.MemStore.{bytes_of}
+use Rattle.store_dev.specs.declared.memory.MemStore.{MemStore}
+use Rattle.spawn_dev.specs.MemWorld.{state_of, runs_of}
+use Rattle.spawn_dev.specs.declared.command.Step.{Step}
+use Rattle.spawn_dev.specs.declared.world.MemWorld.{MemWorld}
+use Rattle.answers.specs.Moments.{Moment}
+
+-- the files, the starts and ends of commands so far, the bytes of the store, what the runs printed,
+-- and the lines that tell of them
+pub record State : Type 0 where
+  pub files : FileMap
+  pub steps : List Step
+  pub stored : List ℕ
+  pub printed : List ℕ
+  pub lines : List ℕ
+
+-- what a run sees of it
+abbrev pub moment_in : State → Moment
+moment_in state = record {
+  files = state.files;
+  steps = state.steps;
+  stored = state.stored;
+  printed = state.printed;
+}
+
+-- what these devices hold, and these lines
+abbrev pub state_at : MemWorld → MemStore → MemSink → List ℕ → State
+state_at world store pages lines = record {
+  files = (state_of world).files;
+  steps = (runs_of world).steps;
+  stored = bytes_of store;
+  printed = pages.written.items;
+  lines = lines;
+}
