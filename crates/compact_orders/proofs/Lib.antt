@@ -1,0 +1,4 @@
+mod Reading
+mod Halting
+mod Leaving
+mod Telling
