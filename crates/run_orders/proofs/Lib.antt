@@ -3,3 +3,4 @@ mod Only
 mod NotBuilt
 mod Left
 mod Ready
+mod Current

@@ -27,6 +27,7 @@
 
 mod asking;
 mod orders;
+mod over_current;
 mod over_store;
 mod unbuilt;
 

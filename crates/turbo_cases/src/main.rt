@@ -38,6 +38,7 @@ const GROUPS: [&str; 17] = [
     "environment",
     "pruning",
     "sample",
+    "compaction",
     "refusals",
     "sizes",
     "limits",
