@@ -25,9 +25,6 @@ pub trait System: Env + Files<File = File> + Processes + Clock + Print + Eprint 
 
 impl<R: Env + Files<File = File> + Processes + Clock + Print + Eprint + AllocGlobal> System for R {}
 
-/// The file of the spare store.
-pub(crate) const SPARE_PATH: &str = ".turbo/spare.turb";
-
 /// The status of a call whose words or environment were not read.
 const UNREAD: u8 = 1;
 
@@ -70,24 +67,22 @@ where
     let mut world = OsWorld::new(rt, alloc);
     let mut out = OsSink::new(rt);
     let store = OsStore::at(rt, STORE_PATH);
-    let spare = OsStore::at(rt, SPARE_PATH);
-    let (answer, status) = ended(alloc, words, env, &mut world, store, spare, &mut out);
+    let (answer, status) = ended(alloc, words, env, &mut world, store, &mut out);
     advise(rt, words, &answer);
     status
 }
 
 // The call without its clauses, which say nothing of the system's devices and would take the prover minutes there.
-fn ended<W: Spawner, S: StoreDevice + Drop, P: StoreDevice + Drop, K: Sink>(
+fn ended<W: Spawner, S: StoreDevice + Drop, K: Sink>(
     alloc: Global,
     words: &[Text],
     env: &[(Text, Text)],
     world: &mut W,
     store: S,
-    spare: P,
     out: &mut K,
 ) -> (Answer, u8)
     requires { IsIdle (W.runs world.old) }
 {
-    let outcome = exit_status(alloc, words, env, world, store, spare, out);
+    let outcome = exit_status(alloc, words, env, world, store, out);
     (outcome.answer, outcome.status)
 }

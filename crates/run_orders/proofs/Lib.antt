@@ -3,4 +3,3 @@ mod Only
 mod NotBuilt
 mod Left
 mod Ready
-mod Current

@@ -27,7 +27,6 @@
 
 mod asking;
 mod orders;
-mod over_current;
 mod over_store;
 mod unbuilt;
 

@@ -8,11 +8,12 @@ use Rattle.cli_words.specs.declared.order.RunOrder.{RunOrder}
 use Rattle.spawn_dev.specs.Books.{effect_of}
 use Rattle.spawn_dev.specs.Progress.{starts_in}
 use Rattle.spawn_dev.specs.declared.book.Rule.{Rule}
+use Rattle.refusals.specs.Refusals.{line_of, refusal_text}
+use Rattle.refusals.specs.declared.refusal.Refusal.{Refusal}
 use Rattle.answers.specs.declared.answer.Answer.{Answer}
 use Rattle.answers.specs.declared.answer.Answer.TheVariants.{OutOfMemory}
 use Rattle.answers.specs.Answers.{IfDone, IfRefused, exit_status}
 use Rattle.answers.specs.Stops.{IfFault}
-use Rattle.store_answers.specs.Stores.{stores_of}
 use Rattle.run_orders.specs.Asking.{IsRefusedRunOrder}
 use Rattle.run_orders.specs.Outcomes.{RanOrder}
 use Rattle.run_orders.specs.Stops.{StoppedRun}
@@ -50,12 +51,12 @@ build_order = record {
   shared = false;
 }
 
--- the made repository and two empty stores, before the first run
+-- the made repository and an empty store, before the first run
 abbrev pub first_state : ℕ → State
 first_state n = record {
   files = file_at (sample_files n);
   steps = [];
-  stores = stores_of [] [];
+  stored = [];
   printed = [];
   lines = size_line n;
 }
@@ -66,7 +67,7 @@ abbrev pub changed : ℕ → ℕ → State → State
 changed number first old = record {
   files = changed_at (source_path number) first old.files;
   steps = [];
-  stores = old.stores;
+  stored = old.stored;
   printed = old.printed;
   lines = old.lines;
 }
@@ -81,16 +82,28 @@ started_between old new = length (starts_in new.steps) - length (starts_in old.s
 pub record Runs (rules : List Rule) (old new : State) (answer : Answer) : Type 0 where
   pub ran : IfDone answer
       (RanOrder (effect_of rules) build_order [] (Unit {0}) (moment_in old) (moment_in new))
-  pub refused : IfRefused answer (IsRefusedRunOrder build_order [] old.files old.stores)
+  pub refused : IfRefused answer (IsRefusedRunOrder build_order [] old.files old.stored)
   pub stopped : IfFault answer
-      (StoppedRun (IsRefusedRunOrder build_order [] old.files old.stores) build_order
+      (StoppedRun (IsRefusedRunOrder build_order [] old.files old.stored) build_order
       (effect_of rules) [] (Unit {0}) (moment_in old) (moment_in new))
 
--- A run of this number in a repository of n packages, and a line more that tells what it did. A run
--- for which memory was wanting is not told.
-pub record IsTold (n run : ℕ) (old new : State) : Type 0 where
+-- A run that was refused leaves all as it was, but that the line of the refusal was printed.
+pub record LeavesAlone (old new : State) (reason : Refusal) : Type 0 where
+  pub files : new.files ≡ old.files
+  pub steps : new.steps ≡ old.steps
+  pub stored : new.stored ≡ old.stored
+  pub printed : new.printed ≡ old.printed ++ line_of (refusal_text reason)
+
+-- A run of the words that had this exit status. One for which memory was wanting has none.
+pub record RunsTo (rules : List Rule) (old new : State) (status : ℕ) : Type 0 where
   pub answer : Answer
   pub remembered : answer ≢ OutOfMemory
-  pub runs : Runs (sample_rules n) old new answer
-  pub told : new.lines
-      ≡ old.lines ++ run_line n run (started_between old new) (exit_status answer)
+  pub runs : Runs rules old new answer
+  pub kept : IfRefused answer (LeavesAlone old new)
+  pub status_is : status ≡ exit_status answer
+
+-- a run of this number in a repository of n packages, and a line more that tells what it did
+pub record IsTold (n run : ℕ) (old new : State) : Type 0 where
+  pub status : ℕ
+  pub runs : RunsTo (sample_rules n) old new status
+  pub told : new.lines ≡ old.lines ++ run_line n run (started_between old new) status

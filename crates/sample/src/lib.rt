@@ -2,7 +2,7 @@
 //! stored is run, that what is stored is not run again, and that a change runs again what depends
 //! on it.
 //!
-//! [`sample`] makes four runs of `run build --concurrency=4` over the same stores, and prints how many
+//! [`sample`] makes four runs of `run build --concurrency=4` over one store, and prints how many
 //! commands each started. The second comes over what the first one left, the third after a change
 //! of the last package, and the fourth after one of the first package, which all others need. For
 //! twelve packages it prints
@@ -13,7 +13,7 @@
 //! run 2: 0 started, 12 cached
 //! run 3: 1 started, 11 cached
 //! run 4: 12 started, 0 cached
-//! pages 0123456789abcdef
+//! pages ea213b232d97f684
 //! ```
 //!
 //! where the last line has the first 16 hexadecimal digits of the SHA-256 of all that the four runs

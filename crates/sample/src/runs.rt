@@ -1,15 +1,19 @@
 // The runs.
-ghost use Rattle.std.specs.Prelude.{◌≡◌, ℕ, List, [], IfOk, Ok, IsOkUnless, string_bytes};
+ghost use Rattle.std.specs.Prelude.{◌≡◌, ◌≢◌, ℕ, List, [], Ok, IfOk, IsOkUnless};
+ghost use Rattle.std.specs.Prelude.{IsSome, IfSome, IfNone, string_bytes};
 ghost use Rattle.cli_words.specs.Orders.{order_of};
 ghost use Rattle.cli_words.specs.declared.order.Order.TheVariants.{Run};
 ghost use Rattle.store_dev.specs.MemStore.{bytes_of};
 ghost use Rattle.spawn_dev.specs.MemWorld.{runs_of};
 ghost use Rattle.spawn_dev.specs.Spawn.{IsIdle};
+ghost use Rattle.answers.specs.Answers.{IfRefused, exit_status};
 ghost use Rattle.sample_repository.specs.Repository.{IsSize};
 ghost use Rattle.sample.specs.Lines.{text_in};
 ghost use Rattle.sample.specs.Runs.{
   IsTold,
+  LeavesAlone,
   Runs,
+  RunsTo,
   build_order,
   build_words,
   changed,
@@ -72,18 +76,54 @@ fn run_once(
     order: &RunOrder,
     world: &mut MemWorld,
     store: MemStore,
-    spare: MemStore,
     out: &mut MemSink,
-) -> (Answer, MemStore, MemStore)
+) -> (Answer, MemStore)
     requires order { order.now ≡ build_order }
     requires idle { IsIdle (runs_of world.old) }
     ensures runs { (before after : List ℕ) → Runs (runs_of world.old).book
-        (state_at world.old store spare out.old before)
-        (state_at world.new result.1 result.2 out.new after) result.0 }
+        (state_at world.old store out.old before)
+        (state_at world.new result.1 out.new after) result.0 }
+    ensures kept { (before after : List ℕ) → IfRefused result.0 (LeavesAlone
+        (state_at world.old store out.old before) (state_at world.new result.1 out.new after)) }
     ensures idle { IsIdle (runs_of world.new) }
     ensures book { (runs_of world.new).book ≡ (runs_of world.old).book }
 {
-    run_order(alloc, order, &[], world, store, spare, out)
+    run_order(alloc, order, &[], world, store, out)
+}
+
+/// The exit status of a run. After want of memory there is none.
+fn ended(answer: Answer) -> Option<u8>
+    ensures status { IfSome result (λ status. status ≡ exit_status answer) }
+    ensures remembered { IsSome result → answer ≢ Answer.OutOfMemory }
+    ensures wanting { IfNone result (answer ≡ Answer.OutOfMemory) }
+{
+    let status = answer.status();
+    match answer {
+        Answer::OutOfMemory => None,
+        _ => Some(status),
+    }
+}
+
+/// Makes a run, and answers its exit status. After want of memory there is none.
+fn run_status(
+    alloc: Global,
+    world: &mut MemWorld,
+    store: MemStore,
+    out: &mut MemSink,
+) -> Result<(u8, MemStore), PageErr>
+    requires { IsIdle (runs_of world.old) }
+    ensures runs { (before after : List ℕ) → IfOk result (λ made. RunsTo (runs_of world.old).book
+        (state_at world.old store out.old before) (state_at world.new made.1 out.new after) made.0) }
+    ensures idle { IsIdle (runs_of world.new) }
+    ensures book { (runs_of world.new).book ≡ (runs_of world.old).book }
+    ensures memory { IsOkUnless result PageErr.OutOfMemory }
+{
+    let order = build_order(alloc)?;
+    let (answer, store) = run_once(alloc, &order, world, store, out);
+    match ended(answer) {
+        None => Err(PageErr::OutOfMemory),
+        Some(status) => Ok((status, store)),
+    }
 }
 
 /// An empty store, no call of which fails.
@@ -94,7 +134,7 @@ fn no_store(alloc: Global) -> MemStore
 }
 
 impl Stage {
-    /// The repository of n packages and two empty stores, before the first run.
+    /// The repository of n packages and an empty store, before the first run.
     pub(crate) fn new(alloc: Global, n: u32) -> Result<Stage, PageErr>
         requires { IsSize n }
         ensures size { IfOk result (λ stage. stage.n ≡ n) }
@@ -105,7 +145,6 @@ impl Stage {
             n,
             world: sample_world(alloc, n)?,
             store: no_store(alloc),
-            spare: no_store(alloc),
             pages: MemSink::new(alloc, Vec::new(alloc)),
             lines: size_line(alloc, n)?,
         })
@@ -117,27 +156,21 @@ impl Stage {
         ensures told { IfOk result (λ made. IsTold self.n run (state_in self) (state_in made)) }
         ensures memory { IsOkUnless result PageErr.OutOfMemory }
     {
-        let order = build_order(alloc)?;
         let Stage {
             n,
             mut world,
             store,
-            spare,
             mut pages,
             mut lines,
         } = self;
         let before = world.starts().as_slice().len();
-        let (answer, store, spare) = run_once(alloc, &order, &mut world, store, spare, &mut pages);
-        if let Answer::OutOfMemory = answer {
-            return Err(PageErr::OutOfMemory);
-        }
+        let (status, store) = run_status(alloc, &mut world, store, &mut pages)?;
         let started = world.starts().as_slice().len().saturating_sub(before);
-        push_run(alloc, &mut lines, n, run, started, answer.status())?;
+        push_run(alloc, &mut lines, n, run, started, status)?;
         Ok(Stage {
             n,
             world,
             store,
-            spare,
             pages,
             lines,
         })
@@ -154,7 +187,6 @@ impl Stage {
             n,
             world,
             store,
-            spare,
             pages,
             lines,
         } = self;
@@ -163,7 +195,6 @@ impl Stage {
             n,
             world,
             store,
-            spare,
             pages,
             lines,
         })

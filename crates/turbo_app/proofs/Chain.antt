@@ -1,11 +1,10 @@
 -- In a chain of images that began with an empty store all pairs tell the truth.
-use Rattle.std.proofs.Common.{◌≡◌, ◌≤◌, ℕ, List, [], ◌∷◌, ◌++◌, length, map, Option, Some, None, Ok, refl, sym, ◌∙◌, ap}
+use Rattle.std.proofs.Common.{◌≡◌, ℕ, List, [], ◌∷◌, ◌++◌, map, Option, Some, None, sym, ◌∙◌, ap}
 use Rattle.std.specs.List.{AllByRecursion}
 use Rattle.cache_api.specs.Pairs.{Pair}
 use Rattle.artifact_store.specs.Pairs.{stands_for}
 use Rattle.run_laws.specs.Effects.{Book}
 use Rattle.run_laws.specs.Pairs.{IsGood, IsHistory}
-use Rattle.run_orders.specs.Facts.{short_stands}
 use Rattle.turbo_app.specs.Images.{IsChain, HasGoodPairs}
 
 -- the pairs of the bytes, and none where they are no store

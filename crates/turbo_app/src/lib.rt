@@ -27,9 +27,11 @@ mod help;
 mod laws;
 mod sampling;
 mod top;
+mod unbuilt;
 
 pub use answers::Answer;
 pub use laws::{image_law, truth_law};
 pub use refusals::{Refusal, StoreFile};
 pub use run_orders::{CACHE_FORM, SHARED_FORM, run_order};
 pub use top::turbo;
+pub use unbuilt::COMPACT_FORM;

@@ -38,7 +38,6 @@ const GROUPS: [&str; 17] = [
     "environment",
     "pruning",
     "sample",
-    "compaction",
     "refusals",
     "sizes",
     "limits",
