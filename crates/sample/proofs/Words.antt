@@ -1,6 +1,7 @@
 -- What the words of each run ask for.
 use Rattle.std.proofs.Common.{◌≡◌, Ok, refl}
-use Rattle.cli_words.specs.Orders.{order_of, command_order, run_order, first_fault, fault_in, first_use, names_in, extra_in, values_in}
+use Rattle.cli_words.specs.Orders.{order_of, command_order, run_order, first_fault, fault_in}
+use Rattle.cli_words.specs.Orders.{first_use, names_in, extra_in, values_in}
 use Rattle.cli_words.specs.Grammar.{option_in, first_item, items_behind}
 use Rattle.cli_words.specs.Cuts.{before, behind}
 use Rattle.cli_words.specs.Values.{number, access}

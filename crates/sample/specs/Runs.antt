@@ -61,8 +61,8 @@ first_state n = record {
   lines = size_line n;
 }
 
--- The source of a package begins with another byte, and no command was started since. All else is as
--- it was.
+-- The source of a package begins with another byte, and no command was started since. All else is
+-- as it was.
 abbrev pub changed : ℕ → ℕ → State → State
 changed number first old = record {
   files = changed_at (source_path number) first old.files;

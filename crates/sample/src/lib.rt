@@ -23,9 +23,9 @@
 //! It asks for 1 to 400 packages. `SinkFault` comes where the output failed, and `OutOfMemory`
 //! where memory was wanting, and then nothing is printed.
 //!
-//! `specs/` defines the lines (`RunLines`), what stands between two runs (`States`, and `Stages` for
-//! the devices), what a run does and how it is told (`Runs`), and what is printed (`Lines`). The
-//! repository is that of `sample_repository`.
+//! `specs/` defines the lines (`RunLines`), what stands between two runs (`States`, and `Stages`
+//! for the devices), what a run does and how it is told (`Runs`), and what is printed (`Lines`).
+//! The repository is that of `sample_repository`.
 #![tactic(auto)]
 
 mod lines;

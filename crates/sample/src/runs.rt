@@ -112,8 +112,9 @@ fn run_status(
     out: &mut MemSink,
 ) -> Result<(u8, MemStore), PageErr>
     requires { IsIdle (runs_of world.old) }
-    ensures runs { (before after : List ℕ) → IfOk result (λ made. RunsTo (runs_of world.old).book
-        (state_at world.old store out.old before) (state_at world.new made.1 out.new after) made.0) }
+    ensures runs { (before after : List ℕ) → IfOk result (λ made.
+        RunsTo (runs_of world.old).book (state_at world.old store out.old before)
+        (state_at world.new made.1 out.new after) made.0) }
     ensures idle { IsIdle (runs_of world.new) }
     ensures book { (runs_of world.new).book ≡ (runs_of world.old).book }
     ensures memory { IsOkUnless result PageErr.OutOfMemory }

@@ -6,7 +6,7 @@
 //! run build                the page of the run, or of `--dry` what it would do   its status
 //! run                      turbo: words: NoTask                                  1
 //! prune web                 - Added ui, and a line for each package that stays   0
-//! sample 3                 turbo: not built: form 15                             1
+//! sample 3                 what four runs of three made packages started         0
 //! compact --keep=2         turbo: not built: form 16                             1
 //! ```
 //!
@@ -19,8 +19,8 @@
 //!
 //! `specs/` says what words ask for and why they are refused (`Asking`), what a call leaves that
 //! came to its end (`Outcomes`) or was stopped (`Stops`), and what a crash leaves of the store
-//! meanwhile (`Images`). `answers` says what answers say of the devices, `run_orders` and
-//! `prune_orders` what becomes of an order to run and to prune.
+//! meanwhile (`Images`). `answers` says what answers say of the devices, `run_orders`,
+//! `prune_orders` and `sample` what becomes of an order to run, to prune and to sample.
 #![tactic(auto)]
 
 mod help;

@@ -11,7 +11,8 @@ use Rattle.sample.specs.States.{State}
 use Rattle.sample.proofs.runs.run_once.Goals as goal
 
 -- what a refusal leaves, part by part
-left_alone : (answer : Answer) (old new : State) → IfRefused answer (λ reason. new.files ≡ old.files)
+left_alone : (answer : Answer) (old new : State)
+    → IfRefused answer (λ reason. new.files ≡ old.files)
     → IfRefused answer (λ reason. new.steps ≡ old.steps)
     → IfRefused answer (λ reason. new.stored ≡ old.stored)
     → IfRefused answer (λ reason. new.printed ≡ old.printed ++ line_of (refusal_text reason))
