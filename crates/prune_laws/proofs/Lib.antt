@@ -1,15 +1,15 @@
-mod Owners
-mod Defs
-mod Needs
+pub mod Owners
+pub mod Defs
+pub mod Needs
 mod Homes
-mod Staying
-mod Ignoring
-mod Inputs
-mod Leading
-mod Graphs
-mod Running
-mod Parts
-mod Reading
+pub mod Staying
+pub mod Ignoring
+pub mod Inputs
+pub mod Leading
+pub mod Graphs
+pub mod Running
+pub mod Parts
+pub mod Reading
 mod Law
 mod Whole
 mod Outcomes
