@@ -1,6 +1,7 @@
 // A run of a plan over a cache.
 ghost use Rattle.std.specs.Prelude.{◌≡◌, ◌++◌, ◌≤◌, ℕ, Some, IsTrue};
 ghost use Rattle.std.specs.Bool.{OnFalse, OnTrue};
+ghost use Rattle.cache_api.specs.Cache.{Keeps};
 ghost use Rattle.cache_api.specs.Moments.{Leaves};
 ghost use Rattle.spawn_dev.specs.Spawn.{IsIdle};
 ghost use Rattle.run_laws.specs.Runs.{IsReady};
@@ -89,6 +90,7 @@ fn run_live<W: Spawner, C: Cache, K: Sink>(
     // Whatever it answers.
     ensures idle { IsIdle (W.runs world.new) }
     ensures book { (W.runs world.new).book ≡ (W.runs world.old).book }
+    ensures keeps { Keeps (C.state cache.old) (C.state cache.new) }
     ensures elsewhere { W.tells
         → SameElsewhere plan.now (W.state world.old).files (W.state world.new).files }
     ensures images { C.tells
@@ -129,6 +131,7 @@ fn run_dry<C: Cache, K: Sink>(alloc: Global, plan: &Plan, cache: &mut C, out: &m
         (StopsDry plan.now (C.state cache.old).pairs (K.written out.old) (K.written out.new)) }
 
     // Whatever it answers.
+    ensures keeps { Keeps (C.state cache.old) (C.state cache.new) }
     ensures pairs { C.tells → (C.state cache.new).pairs ≡ (C.state cache.old).pairs }
     ensures left { C.tells → Leaves C.moment C.left cache.old cache.new (λ image.
         C.says (C.state cache.old).base image ≡ Some (C.state cache.old).pairs) }
@@ -185,6 +188,7 @@ pub fn run_over<W: Spawner, C: Cache, K: Sink>(
     // Whatever it answers.
     ensures idle { IsIdle (W.runs world.new) }
     ensures book { (W.runs world.new).book ≡ (W.runs world.old).book }
+    ensures keeps { Keeps (C.state cache.old) (C.state cache.new) }
     ensures elsewhere { W.tells
         → SameElsewhere plan.now (W.state world.old).files (W.state world.new).files }
     ensures dry_files { OnTrue is_dry ((W.state world.new).files ≡ (W.state world.old).files) }

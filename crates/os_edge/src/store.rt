@@ -24,28 +24,51 @@ const CURRENT_FOLDER: &str = ".";
 // From here on a store is worth a word.
 const LARGE: u64 = 1 << 30;
 
+// What is done where another run holds the lock.
+#[derive(Clone, Copy, PartialEq, Eq)]
+enum WhenHeld {
+    StandIn,
+    Fail,
+}
+
 /// The file of a store, with a count of its faults. The first call of [`StoreDevice`] opens it and
-/// locks it for good, and makes it and its folders where they are not there. While another run holds
-/// the lock, an empty store in memory stands in its place, which nobody keeps. It tells no bytes. Its
-/// count of faults stands still at the last value of a u64.
+/// locks it for good, and makes it and its folders where they are not there. While another run
+/// holds the lock, an empty store in memory stands in its place, which nobody keeps, or each call
+/// fails. It tells no bytes. Its count of faults stands still at the last value of a u64.
 #[derive(Drop)]
 pub struct OsStore<'p, R> {
     rt: R,
     path: &'p str,
+    when_held: WhenHeld,
     backing: Option<Backing>,
     faults: u64,
 }
 
 impl<'p, R: Files<File = File> + Eprint + AllocGlobal> OsStore<'p, R> {
     /// The file at the path, from the current folder or, with a `/` in front, from the root of the
-    /// file system. It touches no file yet and takes no memory. The empty path is no file: each call
-    /// fails then.
+    /// file system. It touches no file yet and takes no memory. The empty path is no file: each
+    /// call fails then. While another run holds the lock, an empty store stands in the file's
+    /// place.
     pub fn at(rt: R, path: &'p str) -> OsStore<'p, R>
         ensures { ⟦<OsStore<'p, R> as StoreDevice>⟧.store_faults result ≡ 0 }
     {
         OsStore {
             rt,
             path,
+            when_held: WhenHeld::StandIn,
+            backing: None,
+            faults: 0,
+        }
+    }
+
+    /// The same, but that each call fails while another run holds the lock.
+    pub fn alone(rt: R, path: &'p str) -> OsStore<'p, R>
+        ensures { ⟦<OsStore<'p, R> as StoreDevice>⟧.store_faults result ≡ 0 }
+    {
+        OsStore {
+            rt,
+            path,
+            when_held: WhenHeld::Fail,
             backing: None,
             faults: 0,
         }
@@ -64,6 +87,7 @@ impl<'p, R: Files<File = File> + Eprint + AllocGlobal> OsStore<'p, R> {
             Ok(file) => Ok(OsStore {
                 rt,
                 path,
+                when_held: WhenHeld::Fail,
                 backing: Some(Backing::File(file)),
                 faults,
             }),
@@ -83,31 +107,43 @@ impl<'p, R: Files<File = File> + Eprint + AllocGlobal> OsStore<'p, R> {
 fn opened<'a, R: Files<File = File> + Eprint + AllocGlobal>(
     rt: &R,
     path: &str,
+    when_held: WhenHeld,
     backing: &'a mut Option<Backing>,
 ) -> io::Result<&'a mut Backing> {
     match backing {
         Some(backing) => Ok(backing),
-        None => Ok(backing.insert(told_of(rt, path, "opened", backing_of(rt, path))?)),
+        None => Ok(backing.insert(told_of(rt, path, "opened", backing_of(rt, path, when_held))?)),
     }
 }
 
-// The file, or an empty store in memory while another run holds it.
+// The file; while another run holds it, an empty store in memory or an error.
 fn backing_of<R: Files<File = File> + Eprint + AllocGlobal>(
     rt: &R,
     path: &str,
+    when_held: WhenHeld,
 ) -> io::Result<Backing> {
     let file = open(rt, path)?;
     if is_ours(file.try_lock())? {
         warn_of_size(rt, path, &file)?;
         return Ok(Backing::File(file));
     }
-    let _ = eprintln!(rt; "turbo: another run holds {path}, so this one keeps no results");
-    Ok(Backing::Memory(Vec::new(rt.alloc())))
+    match when_held {
+        WhenHeld::StandIn => {
+            let _ = eprintln!(rt; "turbo: another run holds {path}, so this one keeps no results");
+            Ok(Backing::Memory(Vec::new(rt.alloc())))
+        }
+        WhenHeld::Fail => {
+            let _ = eprintln!(rt; "turbo: another run holds {path}");
+            Err(io::Error::from(ErrorKind::ResourceBusy))
+        }
+    }
 }
 
 fn warn_of_size(rt: &impl Eprint, path: &str, file: &File) -> io::Result<()> {
     if file.metadata()?.len() > LARGE {
-        let _ = eprintln!(rt; "turbo: {path} has passed a gibibyte, and may be deleted");
+        let _ = eprintln!(rt;
+            "turbo: {path} has passed a gibibyte: after turbo compact it may be deleted"
+        );
     }
     Ok(())
 }
@@ -154,14 +190,15 @@ fn lock<R: Files<File = File>>(rt: &R, path: &str) -> io::Result<File> {
     Ok(file)
 }
 
-// After it a crash leaves the names in the folder. A file that was found needs it too: the process that made it
-// may have been stopped before it came to this.
+// After it a crash leaves the names in the folder. A file that was found needs it too: the process
+// that made it may have been stopped before it came to this.
 fn sync_folder<R: Files<File = File>>(rt: &R, folder: &str) -> io::Result<()> {
     let folder = fs::open(rt, folder)?;
     folder.sync_all()
 }
 
-// Counts each error. No call takes memory of the program: where the system has none, that is a fault too.
+// Counts each error. No call takes memory of the program: where the system has none, that is a
+// fault too.
 fn counted<T>(faults: &mut u64, outcome: io::Result<T>) -> Result<T, StoreErr>
     ensures value { IfOk result (λ x. outcome ≡ Ok x) }
     ensures error { OnErr result (IsErr outcome) }
@@ -202,14 +239,14 @@ impl<'p, R: Files<File = File> + Eprint + AllocGlobal> StoreDevice for OsStore<'
 
     fn len(&mut self) -> Result<u64, StoreErr> {
         let rt = &self.rt;
-        let store = opened(rt, self.path, &mut self.backing);
+        let store = opened(rt, self.path, self.when_held, &mut self.backing);
         let outcome = store.and_then(|store| told_of(rt, self.path, "measured", store.len()));
         counted(&mut self.faults, outcome)
     }
 
     fn read_at(&mut self, at: u64, buf: &mut [u8]) -> Result<(), StoreErr> {
         let rt = &self.rt;
-        let store = opened(rt, self.path, &mut self.backing);
+        let store = opened(rt, self.path, self.when_held, &mut self.backing);
         let outcome = store.and_then(|store| told_of(
             rt,
             self.path,
@@ -221,7 +258,7 @@ impl<'p, R: Files<File = File> + Eprint + AllocGlobal> StoreDevice for OsStore<'
 
     fn write_at(&mut self, _alloc: Global, at: u64, bytes: &[u8]) -> Result<(), StoreErr> {
         let rt = &self.rt;
-        let store = opened(rt, self.path, &mut self.backing);
+        let store = opened(rt, self.path, self.when_held, &mut self.backing);
         let outcome = store.and_then(|store| told_of(
             rt,
             self.path,
@@ -233,7 +270,7 @@ impl<'p, R: Files<File = File> + Eprint + AllocGlobal> StoreDevice for OsStore<'
 
     fn sync(&mut self) -> Result<(), StoreErr> {
         let rt = &self.rt;
-        let store = opened(rt, self.path, &mut self.backing);
+        let store = opened(rt, self.path, self.when_held, &mut self.backing);
         let outcome = store.and_then(|store| told_of(rt, self.path, "synced", store.sync()));
         counted(&mut self.faults, outcome)
     }

@@ -25,11 +25,18 @@ pub trait System: Env + Files<File = File> + Processes + Clock + Print + Eprint 
 
 impl<R: Env + Files<File = File> + Processes + Clock + Print + Eprint + AllocGlobal> System for R {}
 
+/// The file of the spare store.
+pub(crate) const SPARE_PATH: &str = ".turbo/spare.turb";
+
+// The word in front of an order to compact.
+const COMPACT: &str = "compact";
+
 /// The status of a call whose words or environment were not read.
 const UNREAD: u8 = 1;
 
-/// Does what the words of the process ask for, with its environment, over the files below the current folder and
-/// standard output, and answers the status with which to end. No contract can say which the words are.
+/// Does what the words of the process ask for, with its environment, over the files below the
+/// current folder and standard output, and answers the status with which to end. No contract can
+/// say which the words are.
 pub fn system_status<R: System>(rt: &R) -> u8
 where
     <R::Started as OpenProcess>::Stdout: AsRawFd,
@@ -66,23 +73,38 @@ where
 {
     let mut world = OsWorld::new(rt, alloc);
     let mut out = OsSink::new(rt);
-    let store = OsStore::at(rt, STORE_PATH);
-    let (answer, status) = ended(alloc, words, env, &mut world, store, &mut out);
+    let store = store_at(rt, words, STORE_PATH);
+    let spare = store_at(rt, words, SPARE_PATH);
+    let (answer, status) = ended(alloc, words, env, &mut world, store, spare, &mut out);
     advise(rt, words, &answer);
     status
 }
 
-// The call without its clauses, which say nothing of the system's devices and would take the prover minutes there.
-fn ended<W: Spawner, S: StoreDevice + Drop, K: Sink>(
+// A run goes on without its store while another one holds it, and a compaction must not.
+fn store_at<'r, R: System>(
+    rt: &'r R,
+    words: &[Text],
+    path: &'static str,
+) -> OsStore<'static, &'r R> {
+    match words.first() {
+        Some(word) if word.as_str() == COMPACT => OsStore::alone(rt, path),
+        _ => OsStore::at(rt, path),
+    }
+}
+
+// The call without its clauses, which say nothing of the system's devices and would take the prover
+// minutes there.
+fn ended<W: Spawner, S: StoreDevice + Drop, P: StoreDevice + Drop, K: Sink>(
     alloc: Global,
     words: &[Text],
     env: &[(Text, Text)],
     world: &mut W,
     store: S,
+    spare: P,
     out: &mut K,
 ) -> (Answer, u8)
     requires { IsIdle (W.runs world.old) }
 {
-    let outcome = exit_status(alloc, words, env, world, store, out);
+    let outcome = exit_status(alloc, words, env, world, store, spare, out);
     (outcome.answer, outcome.status)
 }

@@ -2,7 +2,8 @@
 use Rattle.std.proofs.Common.{◌≡◌, ℕ}
 use Rattle.answers.specs.declared.answer.Answer.{Answer}
 use Rattle.answers.specs.declared.answer.Answer.TheVariants.{Done, Refused, TreeFault, StoreFault, StartFault, SinkFault, OutOfMemory}
-use Rattle.answers.specs.Answers.{IfDone}
+use Rattle.refusals.specs.declared.refusal.Refusal.{Refusal}
+use Rattle.answers.specs.Answers.{IfDone, IfRefused}
 
 -- from what holds follows more
 pub done_as : (P Q : ℕ → Type 0) (r : Answer) → ((status : ℕ) → P status → Q status)
@@ -35,3 +36,24 @@ live_done P R StoreFault whole ran to = tt
 live_done P R StartFault whole ran to = tt
 live_done P R SinkFault whole ran to = tt
 live_done P R OutOfMemory whole ran to = tt
+
+-- what holds of every status
+pub done_all : (P : ℕ → Type 0) (r : Answer) → ((status : ℕ) → P status) → IfDone r P
+done_all P (Done status) all = all status
+done_all P (Refused reason) all = tt
+done_all P TreeFault all = tt
+done_all P StoreFault all = tt
+done_all P StartFault all = tt
+done_all P SinkFault all = tt
+done_all P OutOfMemory all = tt
+
+-- what holds of every refusal
+pub refused_all : (P : Refusal → Type 0) (r : Answer) → ((reason : Refusal) → P reason)
+    → IfRefused r P
+refused_all P (Done status) all = tt
+refused_all P (Refused reason) all = all reason
+refused_all P TreeFault all = tt
+refused_all P StoreFault all = tt
+refused_all P StartFault all = tt
+refused_all P SinkFault all = tt
+refused_all P OutOfMemory all = tt

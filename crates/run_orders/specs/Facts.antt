@@ -1,13 +1,17 @@
 -- What the bytes of a store stand for, and its images where it was left alone.
-use Rattle.std.proofs.Common.{◌≡◌, ◌≤◌, ◌<◌, inl, inr, ℕ, List, [], length, Some, Ok, Err, refl, sym, ◌∙◌}
+use Rattle.std.proofs.Common.{◌≡◌, ◌≤◌, ◌<◌, inl, inr, ℕ, List, [], length, Some, Ok, Err, refl}
 use Rattle.std.proofs.lemmas.Bool.{cases_lt, le-ltb}
 use Rattle.record_log.specs.Frames.{Fault, reading}
 use Rattle.pair_frames.specs.Pairs as frames
 use Rattle.artifact_store.specs.Laws.{stands_is}
 use Rattle.store_dev.specs.Device.{LeavesOnly}
 use Rattle.store_dev.specs.Moments.{started}
-use Rattle.artifact_store.specs.Pairs.{stands_for, IsOneOf}
-use Rattle.run_orders.specs.Images.{AddsTo}
+use Rattle.store_dev.specs.declared.device.StoreDevice.{Ghosts}
+use Rattle.artifact_store.specs.Pairs.{stands_for}
+use Rattle.compact.specs.declared.side.Side.{Side}
+use Rattle.compact.specs.declared.side.Side.TheVariants.{First, Spare}
+use Rattle.compact.specs.Left.{IsReread}
+use Rattle.run_orders.specs.Images.{AddsTo, IsOneOfBoth, LeavesPairs, RereadsOther}
 
 -- ---- short stores
 
@@ -29,13 +33,13 @@ long_read bytes fault bad = elim (cases_lt 9 (length bytes)) as (λ _. 9 < lengt
 
 -- ---- images
 
-module _ (images : List ℕ → Type 0) where
-  -- what the images are
-  pub self_one : (c : List ℕ) → images c → IsOneOf images (stands_for c)
-  self_one c now = (c, now, refl)
+-- what the images are
+pub self_adds : (images : List ℕ → Type 0) (c : List ℕ) → images c → AddsTo images c
+self_adds images c now = (c, now, inl refl)
 
-  pub self_adds : (c : List ℕ) → images c → AddsTo images c
-  self_adds c now = (c, now, inl refl)
+pub self_both : (stores spares : List ℕ → Type 0) (f s : List ℕ) → stores f → spares s
+    → IsOneOfBoth stores spares f s
+self_both stores spares f s now also = (f, s, now, also, refl)
 
 -- ---- a device that was left alone
 
@@ -47,8 +51,31 @@ pub unchanged : {D : Type 0} (moment : D → ℕ) (since : D → ℕ → List �
 unchanged moment since images P device only here =
     started moment since device P (λ c left. here c (only c left))
 
-module _ {D : Type 0} (moment : D → ℕ) (since : D → ℕ → List ℕ → Type 0)
-    (images : D → List ℕ → Type 0) (device : D)
-    (only : (c : List ℕ) → since device (moment device) c → images device c) where
-  pub alone_adds : LeavesOnly moment since device device (AddsTo (images device))
-  alone_adds = unchanged moment since images _ device only (self_adds (images device))
+-- since this moment a crash leaves what it may leave now
+abbrev pub OnlyNow : {D : Type 0} → Ghosts D → D → Type 0
+OnlyNow G device = (c : List ℕ) → G.images_since device (G.moment device) c → G.images device c
+
+module _ {D : Type 0} (G : Ghosts D) (device : D) (only : OnlyNow G device) where
+  pub alone_adds : LeavesOnly G.moment G.images_since device device (AddsTo (G.images device))
+  alone_adds = unchanged G.moment G.images_since G.images _ device only
+      (self_adds (G.images device))
+
+  pub alone_reread : IsReread G device device
+  alone_reread = record {
+    images = unchanged G.moment G.images_since G.images _ device only (λ c now. (c, now, refl));
+    same = λ long. refl;
+  }
+
+-- two that were left alone
+pub alone_pairs : {S P : Type 0} (G : Ghosts S) (H : Ghosts P) (store : S) (spare : P)
+    (Q : List ℕ → List ℕ → Type 0) → OnlyNow G store → OnlyNow H spare
+    → ((f s : List ℕ) → G.images store f → H.images spare s → Q f s)
+    → LeavesPairs G H store store spare spare Q
+alone_pairs G H store spare Q only also here f s left after = here f s (only f left) (also s after)
+
+-- two that were at most opened again
+pub reread_other : {S P : Type 0} (G : Ghosts S) (H : Ghosts P) (store new : S)
+    (spare new_spare : P) → IsReread G store new → IsReread H spare new_spare → (side : Side)
+    → RereadsOther G H side store new spare new_spare
+reread_other G H store new spare new_spare x y First = y
+reread_other G H store new spare new_spare x y Spare = x

@@ -1,9 +1,15 @@
--- What a crash leaves of the store at any moment of an order to run.
+-- What a crash leaves of the stores at any moment of an order to run.
 use Rattle.std.specs.Prelude.{◌≡◌, ◌⊎◌, ℕ, Bool, true, false, List, ◌++◌}
 use Rattle.std.specs.Prelude.{Option, Some, Ok, ⊤}
 use Rattle.listing.specs.KeyText.{Fits}
 use Rattle.cache_api.specs.Pairs.{Pair}
-use Rattle.artifact_store.specs.Pairs.{stands_for, IsOneOf}
+use Rattle.store_dev.specs.declared.device.StoreDevice.{Ghosts}
+use Rattle.record_log.specs.Frames.{reading, ReadsAsOneOf}
+use Rattle.artifact_store.specs.Pairs.{stands_for, told_as}
+use Rattle.compact.specs.declared.side.Side.{Side}
+use Rattle.compact.specs.declared.side.Side.TheVariants.{First, Spare}
+use Rattle.compact.specs.Current.{generation_in, pairs_of}
+use Rattle.compact.specs.Left.{IsReread}
 use Rattle.spawn_dev.specs.declared.command.Step.{Step}
 use Rattle.cli_words.specs.declared.order.RunOrder.{RunOrder}
 use Rattle.run_laws.specs.Effects.{Book}
@@ -18,11 +24,12 @@ use Rattle.run_orders.specs.Outcomes.{opening_at}
 
 -- ---- pairs are only added
 
--- the bytes stand for what those stand for, and where those are a store perhaps for some pairs more
+-- the bytes are read as those, or those are a store, and they one of its generation that has its
+-- pairs and some more
 abbrev pub AddsBehind : List ℕ → List ℕ → Type 0
-AddsBehind d c = (stands_for c ≡ stands_for d)
+AddsBehind d c = (reading c ≡ reading d)
     ⊎ ((pairs : List Pair) × (more : List Pair) × (stands_for d ≡ Some pairs)
-    × (stands_for c ≡ Some (pairs ++ more)))
+    × (told_as (generation_in d) c ≡ Some (pairs ++ more)))
 
 -- they do so for one of these images
 abbrev pub AddsTo : (List ℕ → Type 0) → List ℕ → Type 0
@@ -42,10 +49,10 @@ abbrev pub IsTrustedRun : Bool → Book → Plan → List Pair → Type 0
 IsTrustedRun true book plan pairs = ⊤
 IsTrustedRun false book plan pairs = IsTrusted book plan pairs
 
--- the pairs are those of the store
+-- the pairs are those that are held
 abbrev pub IsTrustedPlan : Bool → Book → Plan → Moment → Type 0
 IsTrustedPlan is_dry book plan old =
-    (pairs : List Pair) → stands_for old.stored ≡ Some pairs → IsTrustedRun is_dry book plan pairs
+    (pairs : List Pair) → old.held.pairs ≡ Some pairs → IsTrustedRun is_dry book plan pairs
 
 -- the plan is the one that the order asks for
 abbrev pub IsTrustedOrder : RunOrder → Book → List (List ℕ × List ℕ) → Moment → Type 0
@@ -60,19 +67,49 @@ abbrev pub IsLeftByRun : Bool → Plan → Opening → List Step → Option (Lis
 IsLeftByRun true plan o steps said = said ≡ Some o.pairs
 IsLeftByRun false plan o steps said = (room : ℕ) × HasSafePairs plan o room steps said
 
--- What an image stands for that a run of the plan leaves: what one of the images stood for as the
--- call began, and where the run is not dry it may be the pairs of the store as it was read, and
--- behind them some first part of those that are due by the steps of the run.
-abbrev pub IsLeftByPlan : Bool → Book → Plan → Moment → List Step → (List ℕ → Type 0) → List ℕ
-    → Type 0
-IsLeftByPlan true book plan old steps images c = IsOneOf images (stands_for c)
-IsLeftByPlan false book plan old steps images c = IsOneOf images (stands_for c)
-    ⊎ ((pairs : List Pair) × (stands_for old.stored ≡ Some pairs)
-    × IsLeftByRun false plan (opening_at book old pairs) steps (stands_for c))
+-- of the pairs that were held
+abbrev pub IsLeftOfHeld : Bool → Book → Plan → Moment → List Step → Option (List Pair) → Type 0
+IsLeftOfHeld is_dry book plan old steps said = (pairs : List Pair)
+    × (old.held.pairs ≡ Some pairs)
+    × IsLeftByRun is_dry plan (opening_at book old pairs) steps said
+
+-- Of one store, whose bytes had that generation: each image is read as one that there was as the
+-- call began, or the run left it.
+abbrev pub IsLeftInStore : Bool → Book → Plan → Moment → List Step → ℕ → (List ℕ → Type 0)
+    → List ℕ → Type 0
+IsLeftInStore is_dry book plan old steps generation images c = ReadsAsOneOf images c
+    ⊎ IsLeftOfHeld is_dry book plan old steps (told_as generation c)
+
+-- ---- of two stores
+
+-- the current one of two images stands for what the current one of two of these stands for
+abbrev pub IsOneOfBoth : (List ℕ → Type 0) → (List ℕ → Type 0) → List ℕ → List ℕ → Type 0
+IsOneOfBoth stores spares f s = (d : List ℕ) × (e : List ℕ) × stores d × spares e
+    × (pairs_of f s ≡ pairs_of d e)
+
+-- The current one of two images stands for what that of two images stood for as the call began; or
+-- for the pairs that were held, and where the run is not dry behind them for some first part of
+-- those that are due by the steps of the run.
+abbrev pub IsLeftByPlan : Bool → Book → Plan → Moment → List Step → (List ℕ → Type 0)
+    → (List ℕ → Type 0) → List ℕ → List ℕ → Type 0
+IsLeftByPlan is_dry book plan old steps stores spares f s = IsOneOfBoth stores spares f s
+    ⊎ IsLeftOfHeld is_dry book plan old steps (pairs_of f s)
 
 -- the same of the plan that the order asks for
 abbrev pub IsLeftByOrder : RunOrder → Book → List (List ℕ × List ℕ) → Moment → List Step
-    → (List ℕ → Type 0) → List ℕ → Type 0
-IsLeftByOrder order book env old steps images c = IsOneOf images (stands_for c)
+    → (List ℕ → Type 0) → (List ℕ → Type 0) → List ℕ → List ℕ → Type 0
+IsLeftByOrder order book env old steps stores spares f s = IsOneOfBoth stores spares f s
     ⊎ ((plan : Plan) × AsksFor order env old.files (Ok plan)
-    × IsLeftByPlan order.dry book plan old steps images c)
+    × IsLeftByPlan order.dry book plan old steps stores spares f s)
+
+-- Q holds of each image of the one device at any moment of a call, with each image of the other one
+-- at any moment of it
+abbrev pub LeavesPairs : {S P : Type 0} → Ghosts S → Ghosts P → S → S → P → P
+    → (List ℕ → List ℕ → Type 0) → Type 0
+LeavesPairs G H old new spare new_spare Q = (f s : List ℕ)
+    → G.images_since new (G.moment old) f → H.images_since new_spare (H.moment spare) s → Q f s
+
+-- of two devices, of which that side was current, the other one was at most opened again
+abbrev pub RereadsOther : {S P : Type 0} → Ghosts S → Ghosts P → Side → S → S → P → P → Type 0
+RereadsOther G H First old new spare new_spare = IsReread H spare new_spare
+RereadsOther G H Spare old new spare new_spare = IsReread G old new

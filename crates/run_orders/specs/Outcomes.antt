@@ -3,7 +3,6 @@ use Rattle.std.specs.Prelude.{◌≡◌, ◌⊎◌, ℕ, Bool, true, false, List
 use Rattle.rel_path.specs.Files.{FileMap}
 use Rattle.listing.specs.KeyText.{Fits}
 use Rattle.cache_api.specs.Pairs.{Pair}
-use Rattle.artifact_store.specs.Pairs.{stands_for, free_in}
 use Rattle.cli_words.specs.declared.order.RunOrder.{RunOrder}
 use Rattle.run_laws.specs.Effects.{Book}
 use Rattle.run_laws.specs.Keys.{IsStorable}
@@ -24,7 +23,7 @@ opening_at book old pairs = record {
   steps = old.steps;
 }
 
--- A run of the plan over the pairs that the store had. Where commands do what the book says of what
+-- A run of the plan over the pairs that its store had. Where commands do what the book says of what
 -- they see, and write no more than a store can keep, where no text is of 2^32 bytes or more, and
 -- where the pairs tell the truth, it is as `Ran` says: each reported task has the log, status and
 -- files of the run without a cache, and exactly the commands without an equal stored listing were
@@ -32,11 +31,11 @@ opening_at book old pairs = record {
 pub record RanPlan (book : Book) (plan : Plan) (Heard : Type 0) (old new : Moment) (status : ℕ)
     : Type 0 where
   pub before : List Pair
-  pub opened : stands_for old.stored ≡ Some before
+  pub opened : old.held.pairs ≡ Some before
   pub after : List Pair
-  pub left : stands_for new.stored ≡ Some after
+  pub left : new.held.pairs ≡ Some after
   pub room : ℕ
-  pub room_is : room ≡ free_in new.stored
+  pub room_is : room ≡ new.held.free
   pub ran : IsStorable plan.mode book plan.listing → Fits plan.listing → IsGood book before
       → Ran plan (opening_at book old before) new.files after room new.steps Heard old.printed
       new.printed status
@@ -46,8 +45,8 @@ pub record RanPlan (book : Book) (plan : Plan) (Heard : Type 0) (old new : Momen
 pub record RanPlanDry (plan : Plan) (Heard : Type 0) (old new : Moment) (status : ℕ)
     : Type 0 where
   pub pairs : List Pair
-  pub opened : stands_for old.stored ≡ Some pairs
-  pub left : stands_for new.stored ≡ Some pairs
+  pub opened : old.held.pairs ≡ Some pairs
+  pub left : new.held.pairs ≡ Some pairs
   pub files : new.files ≡ old.files
   pub steps : new.steps ≡ old.steps
   pub page_is : Heard → new.printed ≡ old.printed ++ dry_page plan pairs

@@ -1,7 +1,12 @@
-//! Orders to run, over devices: the plan that is asked for, and its run over the store.
+//! Orders to run, over devices: the plan that is asked for, and its run over the current one of
+//! two stores.
+//!
+//! The two are the store and the spare one into which it is compacted. The one with the greater
+//! generation is current, and the store where they are equal: a run looks results up in it, and
+//! puts its own there. The other one is at most opened, and has to be a store as well.
 //!
 //! In a repository without a `turbo.json`, whose only package `a` has the script `build`,
-//! `echo hi`, [`run_order`] prints for the order `run build` over an empty store
+//! `echo hi`, [`run_order`] prints for the order `run build` over two empty stores
 //!
 //! ```text
 //! a:build: cache miss, executing a0c70b87e818fd6a
@@ -11,22 +16,24 @@
 //! Cached:    0 cached, 1 total
 //! ```
 //!
-//! and answers `Done { status: 0 }` with the device of the store. The digits are the first 16 of
-//! the SHA-256 of the task's key, in hexadecimal.
+//! and answers `Done { status: 0 }` with both devices, of which the first holds the result. The
+//! digits are the first 16 of the SHA-256 of the task's key, in hexadecimal.
 //!
 //! What is not built is refused before anything is read: `NotBuilt` with [`CACHE_FORM`], 13, for a
 //! `--cache` other than `local:rw`, and else with [`SHARED_FORM`], 14, for `--shared`. Then come
-//! the refusals of the repository and of the plan, and those of the store: `NotAStore`, and
-//! `Damaged` with the byte of the store, counted from 0, at which the broken frame begins.
-//! `TreeFault`, `StoreFault`, `StartFault`, `SinkFault` and `OutOfMemory` say what failed.
+//! the refusals of the repository and of the plan, then those of the store, and then those of the
+//! spare one: `NotAStore`, and `Damaged` with the byte of the file, counted from 0, at which the
+//! broken frame begins. `TreeFault`, `StoreFault` (of either store), `StartFault`, `SinkFault` and
+//! `OutOfMemory` say what failed. Both devices are handed back, whatever is answered.
 //!
 //! `specs/` says what an order asks for and why it is refused (`Asking`), what a call leaves that
-//! came to its end (`Outcomes`) or was stopped (`Stops`), and what a crash leaves of the store
+//! came to its end (`Outcomes`) or was stopped (`Stops`), and what a crash leaves of the stores
 //! meanwhile (`Images`).
 #![tactic(auto)]
 
 mod asking;
 mod orders;
+mod over_current;
 mod over_store;
 mod unbuilt;
 

@@ -2,39 +2,40 @@
 ghost use Rattle.std.specs.Prelude.{◌≡◌, ◌++◌, ◌<◌, ℕ, List, length, Some, IsTrue};
 ghost use Rattle.store_dev.specs.Device.{LeavesOnly, Only};
 ghost use Rattle.spawn_dev.specs.Spawn.{IsIdle};
-ghost use Rattle.rel_path.specs.Causes.{Counts};
 ghost use Rattle.refusals.specs.Refusals.{line_of, refusal_text};
-ghost use Rattle.artifact_store.specs.Answers.{is_fault, raised};
-ghost use Rattle.artifact_store.specs.Pairs.{stands_for};
+ghost use Rattle.artifact_store.specs.Pairs.{told_as};
 ghost use Rattle.artifact_store.specs.Store.{device_of, state_of};
 ghost use Rattle.run_plan.specs.Answers.{SameElsewhere};
 ghost use Rattle.run_plan.specs.Openings.{HoldsInputs};
 ghost use Rattle.run_plan.specs.Plans.{IsValidPlan};
 ghost use Rattle.runner.specs.Answers.{opening_of};
 ghost use Rattle.task_devices.specs.Keeping.{IsFurther};
-ghost use Rattle.answers.specs.Answers.{IfDone, IfRefused, HasCauseIn, counts_at, counts_of};
+ghost use Rattle.answers.specs.Answers.{IfDone, IfRefused, HasCauseIn, counts_at};
 ghost use Rattle.run_orders.specs.Images.{
   AddsTo,
-  IsLeftByPlan,
   IsLeftByRun,
+  IsLeftInStore,
   IsTrustedPlan,
   IsTrustedRun,
 };
 ghost use Rattle.run_orders.specs.Outcomes.{RanAs};
-ghost use Rattle.answers.specs.Moments.{moment_of};
-ghost use Rattle.run_orders.specs.Steps.{IsNoStore, IsStoreRefusal};
-ghost use Rattle.answers.specs.Stops.{IfFault, StopsEarly};
+ghost use Rattle.compact.specs.Current.{generation_in};
+ghost use Rattle.answers.specs.Moments.{Held, moment_of};
+ghost use Rattle.store_answers.specs.Refused.{IsNoStore};
+ghost use Rattle.store_answers.specs.Stores.{held_by};
+ghost use Rattle.answers.specs.Stops.{IfFault};
 ghost use Rattle.run_orders.specs.Stops.{StopsRun, StopsPlan};
 
-use answers::{Answer, refuse, tell};
-use artifact_store::{OpenErr, Store};
+use answers::Answer;
+use artifact_store::Store;
 use cache_api::Cache;
 use cache_runs::run_over;
 use record_log::Unopened;
-use refusals::{DeviceFault, Refusal, StoreFile};
+use refusals::StoreFile;
 use run_plan::Plan;
 use spawn_dev::Spawner;
 use std::alloc::Global;
+use store_answers::unopened;
 use store_dev::StoreDevice;
 use tree_dev::Sink;
 
@@ -53,11 +54,10 @@ fn run_store<W: Spawner, S: StoreDevice, K: Sink>(
     requires inputs { W.tells → HoldsInputs plan.now (W.state world.old).files }
 
     // What came to its end.
-    ensures ran { W.tells → S.tells → (stored : List ℕ)
-        → stands_for stored ≡ Some (state_of store).pairs
+    ensures ran { W.tells → S.tells → (held : Held) → held.pairs ≡ Some (state_of store).pairs
         → IfDone result.0 (RanAs is_dry (W.effect (W.runs world.old).book) plan.now K.tells
-        (moment_of (W.state world.old) (W.runs world.old) stored (K.written out.old))
-        (moment_of (W.state world.new) (W.runs world.new) (S.content result.1)
+        (moment_of (W.state world.old) (W.runs world.old) held (K.written out.old))
+        (moment_of (W.state world.new) (W.runs world.new) (held_by (S.content result.1))
         (K.written out.new))) }
     ensures lasts { S.tells
         → IfDone result.0 (λ _. Only (S.content result.1) (S.images result.1)) }
@@ -65,13 +65,12 @@ fn run_store<W: Spawner, S: StoreDevice, K: Sink>(
     // What was refused.
     ensures not_refused { IfRefused result.0 (λ _. ⊥) }
 
-    // What was stopped.
-    ensures stopped { W.tells → S.tells → K.tells → (stored : List ℕ)
+    // What was stopped, whatever is held as it began and by then.
+    ensures stopped { W.tells → S.tells → K.tells → (held kept : Held)
         → IfFault result.0 (StopsRun is_dry (W.effect (W.runs world.old).book) plan.now
         (state_of store).pairs K.tells
-        (moment_of (W.state world.old) (W.runs world.old) stored (K.written out.old))
-        (moment_of (W.state world.new) (W.runs world.new) (S.content result.1)
-        (K.written out.new))) }
+        (moment_of (W.state world.old) (W.runs world.old) held (K.written out.old))
+        (moment_of (W.state world.new) (W.runs world.new) kept (K.written out.new))) }
 
     // Whatever it answers.
     ensures idle { IsIdle (W.runs world.new) }
@@ -79,12 +78,12 @@ fn run_store<W: Spawner, S: StoreDevice, K: Sink>(
     ensures elsewhere { W.tells
         → SameElsewhere plan.now (W.state world.old).files (W.state world.new).files }
     ensures sound { S.tells → LeavesOnly S.moment S.images_since (device_of store) result.1
-        (λ c. IsFurther (state_of store).pairs (stands_for c)) }
+        (λ c. IsFurther (state_of store).pairs (told_as (state_of store).base c)) }
     ensures left { W.tells → S.tells
         → IsTrustedRun is_dry (W.effect (W.runs world.old).book) plan.now (state_of store).pairs
         → LeavesOnly S.moment S.images_since (device_of store) result.1 (λ c. IsLeftByRun is_dry
         plan.now (opening_of W.effect (W.runs world.old) (W.state world.old) (state_of store))
-        (W.runs world.new).steps (stands_for c)) }
+        (W.runs world.new).steps (told_as (state_of store).base c)) }
     ensures cause { HasCauseIn
         (counts_at (W.state world.old) (W.runs world.old) (state_of store).faults
         (K.faults out.old))
@@ -96,37 +95,14 @@ fn run_store<W: Spawner, S: StoreDevice, K: Sink>(
     (answer, cache.device())
 }
 
-/// Answers why a device was not opened as a store.
-fn unopened<K: Sink>(alloc: Global, fault: OpenErr, out: &mut K) -> Answer
-    ensures not_done { IfDone result (λ _. ⊥) }
-    ensures refused { IfRefused result (IsStoreRefusal fault) }
-    ensures line { K.tells → IfRefused result (λ reason.
-        K.written out.new ≡ K.written out.old ++ line_of (refusal_text reason)) }
-    ensures stopped { K.tells → IfFault result
-        (StopsEarly (IsStoreRefusal fault) (K.written out.old) (K.written out.new)) }
-    ensures cause { (tree start before after : ℕ) → Counts is_fault before after (raised fault)
-        → HasCauseIn (counts_of tree before start (K.faults out.old))
-        (counts_of tree after start (K.faults out.new)) result }
-{
-    let file = StoreFile::Store;
-    match fault {
-        OpenErr::NotAStore => refuse(alloc, Refusal::NotAStore { file }, out),
-        OpenErr::Damaged { at } => refuse(alloc, Refusal::Damaged { file, at }, out),
-        OpenErr::Failed => {
-            tell(alloc, DeviceFault::Store, out);
-            Answer::StoreFault
-        }
-        OpenErr::OutOfMemory => Answer::OutOfMemory,
-    }
-}
-
-/// Opens the store and runs the plan over it, or says what a run would do. The device is handed
-/// back whatever the answer is.
+/// Opens the store of that file and runs the plan over it, or says what a run would do. The device
+/// is handed back whatever the answer is.
 pub(crate) fn run_plan<W: Spawner, S: StoreDevice, K: Sink>(
     alloc: Global,
     is_dry: bool,
     plan: &Plan,
     world: &mut W,
+    file: StoreFile,
     store: S,
     out: &mut K,
 ) -> (Answer, S)
@@ -137,26 +113,28 @@ pub(crate) fn run_plan<W: Spawner, S: StoreDevice, K: Sink>(
     // What came to its end.
     ensures ran { W.tells → S.tells → IfDone result.0
         (RanAs is_dry (W.effect (W.runs world.old).book) plan.now K.tells
-        (moment_of (W.state world.old) (W.runs world.old) (S.content store) (K.written out.old))
-        (moment_of (W.state world.new) (W.runs world.new) (S.content result.1)
+        (moment_of (W.state world.old) (W.runs world.old) (held_by (S.content store))
+        (K.written out.old))
+        (moment_of (W.state world.new) (W.runs world.new) (held_by (S.content result.1))
         (K.written out.new))) }
     ensures lasts { S.tells
         → IfDone result.0 (λ _. Only (S.content result.1) (S.images result.1)) }
 
     // What was refused.
-    ensures refused { S.tells → IfRefused result.0 (IsNoStore (S.content store)) }
+    ensures refused { S.tells → IfRefused result.0 (IsNoStore file (S.content store)) }
     ensures untouched { IfRefused result.0 (λ _. W.state world.new ≡ W.state world.old) }
     ensures unstarted { IfRefused result.0 (λ _. W.runs world.new ≡ W.runs world.old) }
     ensures same { S.tells → IfRefused result.0 (λ _. S.content result.1 ≡ S.content store) }
     ensures line { K.tells → IfRefused result.0 (λ reason.
         K.written out.new ≡ K.written out.old ++ line_of (refusal_text reason)) }
 
-    // What was stopped.
-    ensures stopped { W.tells → S.tells → K.tells → IfFault result.0
-        (StopsPlan is_dry (W.effect (W.runs world.old).book) plan.now K.tells
-        (moment_of (W.state world.old) (W.runs world.old) (S.content store) (K.written out.old))
-        (moment_of (W.state world.new) (W.runs world.new) (S.content result.1)
-        (K.written out.new))) }
+    // What was stopped, whatever is held by then.
+    ensures stopped { W.tells → S.tells → K.tells → (kept : Held) → IfFault result.0
+        (StopsPlan (IsNoStore file (S.content store)) is_dry
+        (W.effect (W.runs world.old).book) plan.now K.tells
+        (moment_of (W.state world.old) (W.runs world.old) (held_by (S.content store))
+        (K.written out.old))
+        (moment_of (W.state world.new) (W.runs world.new) kept (K.written out.new))) }
 
     // Whatever it answers.
     ensures idle { IsIdle (W.runs world.new) }
@@ -167,11 +145,13 @@ pub(crate) fn run_plan<W: Spawner, S: StoreDevice, K: Sink>(
         → LeavesOnly S.moment S.images_since store result.1 (AddsTo (S.images store)) }
     ensures left { W.tells → S.tells
         → IsTrustedPlan is_dry (W.effect (W.runs world.old).book) plan.now
-        (moment_of (W.state world.old) (W.runs world.old) (S.content store) (K.written out.old))
+        (moment_of (W.state world.old) (W.runs world.old) (held_by (S.content store))
+        (K.written out.old))
         → LeavesOnly S.moment S.images_since store result.1
-        (IsLeftByPlan is_dry (W.effect (W.runs world.old).book) plan.now
-        (moment_of (W.state world.old) (W.runs world.old) (S.content store) (K.written out.old))
-        (W.runs world.new).steps (S.images store)) }
+        (IsLeftInStore is_dry (W.effect (W.runs world.old).book) plan.now
+        (moment_of (W.state world.old) (W.runs world.old) (held_by (S.content store))
+        (K.written out.old))
+        (W.runs world.new).steps (generation_in (S.content store)) (S.images store)) }
     ensures cause { HasCauseIn
         (counts_at (W.state world.old) (W.runs world.old) (S.store_faults store) (K.faults out.old))
         (counts_at (W.state world.new) (W.runs world.new) (S.store_faults result.1)
@@ -179,6 +159,6 @@ pub(crate) fn run_plan<W: Spawner, S: StoreDevice, K: Sink>(
 {
     match Store::open(alloc, store) {
         Ok(opened) => run_store(alloc, is_dry, plan, world, opened, out),
-        Err(Unopened { fault, store }) => (unopened(alloc, fault, out), store),
+        Err(Unopened { fault, store }) => (unopened(alloc, file, fault, out), store),
     }
 }

@@ -6,9 +6,9 @@ use Rattle.sample.specs.RunLines.{pages_line}
 use Rattle.sample.specs.Runs.{IsTold, changed, first_state}
 use Rattle.sample.specs.States.{State}
 
--- Four runs over one store, of n packages: the first over an empty one; the second over what that
--- one left; the third once the source of the last package begins with `!`; the fourth once that of
--- the first package, which all others need, begins with `?`.
+-- Four runs over the same stores, of n packages: the first over empty ones; the second over what
+-- that one left; the third once the source of the last package begins with `!`; the fourth once
+-- that of the first package, which all others need, begins with `?`.
 pub record FourRuns (n : ℕ) (last : State) : Type 0 where
   pub built : State
   pub rebuilt : State

@@ -1,5 +1,5 @@
 -- The runs of a sample.
-use Rattle.std.specs.Prelude.{◌≡◌, ◌≢◌, ℕ, ◌-◌, true, false, List, [], ◌∷◌, ◌++◌, None}
+use Rattle.std.specs.Prelude.{◌≡◌, ◌≢◌, ◌<◌, ℕ, ◌-◌, true, false, List, [], ◌∷◌, ◌++◌, None}
 use Rattle.std.specs.Prelude.{length, codes}
 use Rattle.rel_path.specs.Files.{file_at}
 use Rattle.cli_words.specs.declared.order.Access.{Access}
@@ -14,6 +14,7 @@ use Rattle.answers.specs.declared.answer.Answer.{Answer}
 use Rattle.answers.specs.declared.answer.Answer.TheVariants.{OutOfMemory}
 use Rattle.answers.specs.Answers.{IfDone, IfRefused, exit_status}
 use Rattle.answers.specs.Stops.{IfFault}
+use Rattle.store_answers.specs.Stores.{stores_of}
 use Rattle.run_orders.specs.Asking.{IsRefusedRunOrder}
 use Rattle.run_orders.specs.Outcomes.{RanOrder}
 use Rattle.run_orders.specs.Stops.{StoppedRun}
@@ -51,12 +52,12 @@ build_order = record {
   shared = false;
 }
 
--- the made repository and an empty store, before the first run
+-- the made repository and two empty stores, before the first run
 abbrev pub first_state : ℕ → State
 first_state n = record {
   files = file_at (sample_files n);
   steps = [];
-  stored = [];
+  stores = stores_of [] [];
   printed = [];
   lines = size_line n;
 }
@@ -67,7 +68,7 @@ abbrev pub changed : ℕ → ℕ → State → State
 changed number first old = record {
   files = changed_at (source_path number) first old.files;
   steps = [];
-  stored = old.stored;
+  stores = old.stores;
   printed = old.printed;
   lines = old.lines;
 }
@@ -82,16 +83,22 @@ started_between old new = length (starts_in new.steps) - length (starts_in old.s
 pub record Runs (rules : List Rule) (old new : State) (answer : Answer) : Type 0 where
   pub ran : IfDone answer
       (RanOrder (effect_of rules) build_order [] (Unit {0}) (moment_in old) (moment_in new))
-  pub refused : IfRefused answer (IsRefusedRunOrder build_order [] old.files old.stored)
+  pub refused : IfRefused answer (IsRefusedRunOrder build_order [] old.files old.stores)
   pub stopped : IfFault answer
-      (StoppedRun (IsRefusedRunOrder build_order [] old.files old.stored) build_order
+      (StoppedRun (IsRefusedRunOrder build_order [] old.files old.stores) build_order
       (effect_of rules) [] (Unit {0}) (moment_in old) (moment_in new))
 
--- A run that was refused leaves all as it was, but that the line of the refusal was printed.
+-- the bytes of a store stay, but at most nine may become an empty store
+abbrev pub IsKept : List ℕ → List ℕ → Type 0
+IsKept old new = 9 < length old → new ≡ old
+
+-- A run that was refused leaves all as it was, but that the line of the refusal was printed, and
+-- that a store was perhaps begun.
 pub record LeavesAlone (old new : State) (reason : Refusal) : Type 0 where
   pub files : new.files ≡ old.files
   pub steps : new.steps ≡ old.steps
-  pub stored : new.stored ≡ old.stored
+  pub store : IsKept old.stores.store new.stores.store
+  pub spare : IsKept old.stores.spare new.stores.spare
   pub printed : new.printed ≡ old.printed ++ line_of (refusal_text reason)
 
 -- A run of the words that had this exit status. One for which memory was wanting has none.

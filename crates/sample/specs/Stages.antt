@@ -4,4 +4,5 @@ use Rattle.sample.specs.States.{State, state_at}
 use Rattle.sample.specs.declared.stage.Stage.{Stage}
 
 abbrev pub state_in : Stage → State
-state_in stage = state_at stage.world stage.store stage.pages (string_bytes stage.lines)
+state_in stage =
+    state_at stage.world stage.store stage.spare stage.pages (string_bytes stage.lines)

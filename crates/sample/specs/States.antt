@@ -8,13 +8,14 @@ use Rattle.spawn_dev.specs.MemWorld.{state_of, runs_of}
 use Rattle.spawn_dev.specs.declared.command.Step.{Step}
 use Rattle.spawn_dev.specs.declared.world.MemWorld.{MemWorld}
 use Rattle.answers.specs.Moments.{Moment}
+use Rattle.store_answers.specs.Stores.{Stores, stores_of, held_in}
 
--- the files, the starts and ends of commands so far, the bytes of the store, what the runs printed,
--- and the lines that tell of them
+-- the files, the starts and ends of commands so far, the bytes of the stores, what the runs
+-- printed, and the lines that tell of them
 pub record State : Type 0 where
   pub files : FileMap
   pub steps : List Step
-  pub stored : List ℕ
+  pub stores : Stores
   pub printed : List ℕ
   pub lines : List ℕ
 
@@ -23,16 +24,16 @@ abbrev pub moment_in : State → Moment
 moment_in state = record {
   files = state.files;
   steps = state.steps;
-  stored = state.stored;
+  held = held_in state.stores;
   printed = state.printed;
 }
 
 -- what these devices hold, and these lines
-abbrev pub state_at : MemWorld → MemStore → MemSink → List ℕ → State
-state_at world store pages lines = record {
+abbrev pub state_at : MemWorld → MemStore → MemStore → MemSink → List ℕ → State
+state_at world store spare pages lines = record {
   files = (state_of world).files;
   steps = (runs_of world).steps;
-  stored = bytes_of store;
+  stores = stores_of (bytes_of store) (bytes_of spare);
   printed = pages.written.items;
   lines = lines;
 }

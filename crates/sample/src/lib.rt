@@ -2,10 +2,10 @@
 //! stored is run, that what is stored is not run again, and that a change runs again what depends
 //! on it.
 //!
-//! [`sample`] makes four runs of `run build --concurrency=4` over one store, and prints how many
-//! commands each started. The second comes over what the first one left, the third after a change
-//! of the last package, and the fourth after one of the first package, which all others need. For
-//! twelve packages it prints
+//! [`sample`] makes four runs of `run build --concurrency=4` over the same stores, and prints how
+//! many commands each started. The second comes over what the first one left, the third after a
+//! change of the last package, and the fourth after one of the first package, which all others
+//! need. For twelve packages it prints
 //!
 //! ```text
 //! sample 12

@@ -38,8 +38,8 @@ fn sample_text(alloc: Global, n: u32) -> Result<String, PageErr>
     Ok(stage.text(alloc)?)
 }
 
-/// Makes four runs of `run build --concurrency=4` over one store and a made repository of n
-/// packages, 1 to 400, and prints how many commands each started: the first over an empty store;
+/// Makes four runs of `run build --concurrency=4` over the same stores and a made repository of n
+/// packages, 1 to 400, and prints how many commands each started: the first over empty stores;
 /// the second over what the first left; the third after a change of the last package; the fourth
 /// after one of the first package, which all others need. Behind them come the digits of all that
 /// the runs printed. Nothing is printed before the last run has ended.

@@ -76,19 +76,21 @@ fn run_once(
     order: &RunOrder,
     world: &mut MemWorld,
     store: MemStore,
+    spare: MemStore,
     out: &mut MemSink,
-) -> (Answer, MemStore)
+) -> (Answer, MemStore, MemStore)
     requires order { order.now ≡ build_order }
     requires idle { IsIdle (runs_of world.old) }
     ensures runs { (before after : List ℕ) → Runs (runs_of world.old).book
-        (state_at world.old store out.old before)
-        (state_at world.new result.1 out.new after) result.0 }
+        (state_at world.old store spare out.old before)
+        (state_at world.new result.1 result.2 out.new after) result.0 }
     ensures kept { (before after : List ℕ) → IfRefused result.0 (LeavesAlone
-        (state_at world.old store out.old before) (state_at world.new result.1 out.new after)) }
+        (state_at world.old store spare out.old before)
+        (state_at world.new result.1 result.2 out.new after)) }
     ensures idle { IsIdle (runs_of world.new) }
     ensures book { (runs_of world.new).book ≡ (runs_of world.old).book }
 {
-    run_order(alloc, order, &[], world, store, out)
+    run_order(alloc, order, &[], world, store, spare, out)
 }
 
 /// The exit status of a run. After want of memory there is none.
@@ -109,21 +111,22 @@ fn run_status(
     alloc: Global,
     world: &mut MemWorld,
     store: MemStore,
+    spare: MemStore,
     out: &mut MemSink,
-) -> Result<(u8, MemStore), PageErr>
+) -> Result<(u8, MemStore, MemStore), PageErr>
     requires { IsIdle (runs_of world.old) }
     ensures runs { (before after : List ℕ) → IfOk result (λ made.
-        RunsTo (runs_of world.old).book (state_at world.old store out.old before)
-        (state_at world.new made.1 out.new after) made.0) }
+        RunsTo (runs_of world.old).book (state_at world.old store spare out.old before)
+        (state_at world.new made.1 made.2 out.new after) made.0) }
     ensures idle { IsIdle (runs_of world.new) }
     ensures book { (runs_of world.new).book ≡ (runs_of world.old).book }
     ensures memory { IsOkUnless result PageErr.OutOfMemory }
 {
     let order = build_order(alloc)?;
-    let (answer, store) = run_once(alloc, &order, world, store, out);
+    let (answer, store, spare) = run_once(alloc, &order, world, store, spare, out);
     match ended(answer) {
         None => Err(PageErr::OutOfMemory),
-        Some(status) => Ok((status, store)),
+        Some(status) => Ok((status, store, spare)),
     }
 }
 
@@ -135,7 +138,7 @@ fn no_store(alloc: Global) -> MemStore
 }
 
 impl Stage {
-    /// The repository of n packages and an empty store, before the first run.
+    /// The repository of n packages and two empty stores, before the first run.
     pub(crate) fn new(alloc: Global, n: u32) -> Result<Stage, PageErr>
         requires { IsSize n }
         ensures size { IfOk result (λ stage. stage.n ≡ n) }
@@ -146,6 +149,7 @@ impl Stage {
             n,
             world: sample_world(alloc, n)?,
             store: no_store(alloc),
+            spare: no_store(alloc),
             pages: MemSink::new(alloc, Vec::new(alloc)),
             lines: size_line(alloc, n)?,
         })
@@ -161,17 +165,19 @@ impl Stage {
             n,
             mut world,
             store,
+            spare,
             mut pages,
             mut lines,
         } = self;
         let before = world.starts().as_slice().len();
-        let (status, store) = run_status(alloc, &mut world, store, &mut pages)?;
+        let (status, store, spare) = run_status(alloc, &mut world, store, spare, &mut pages)?;
         let started = world.starts().as_slice().len().saturating_sub(before);
         push_run(alloc, &mut lines, n, run, started, status)?;
         Ok(Stage {
             n,
             world,
             store,
+            spare,
             pages,
             lines,
         })
@@ -188,6 +194,7 @@ impl Stage {
             n,
             world,
             store,
+            spare,
             pages,
             lines,
         } = self;
@@ -196,6 +203,7 @@ impl Stage {
             n,
             world,
             store,
+            spare,
             pages,
             lines,
         })

@@ -8,13 +8,14 @@ use spawn_dev::MemWorld;
 use store_dev::MemStore;
 use tree_dev::MemSink;
 
-/// What stands between two runs: the repository of n packages, its store, all that the runs printed
-/// so far, and the lines that tell of them. No command runs.
+/// What stands between two runs: the repository of n packages, its stores, all that the runs
+/// printed so far, and the lines that tell of them. No command runs.
 #[derive(Drop)]
 pub(crate) struct Stage {
     pub(crate) n: u32,
     pub(crate) world: MemWorld,
     pub(crate) store: MemStore,
+    pub(crate) spare: MemStore,
     pub(crate) pages: MemSink,
     pub(crate) lines: String,
     ghost idle: { IsIdle (runs_of world) },

@@ -4,25 +4,27 @@ use Rattle.std.proofs.Common.{length, Option, Some, None, Ok, Err, refl, sym, �
 use Rattle.std.specs.Prelude.{Result}
 use Rattle.std.proofs.lemmas.Bool.{cases_lt, le-ltb, lt-ltb}
 use Rattle.std.proofs.lemmas.Result.{IfErr-at_err}
+use Rattle.rel_path.specs.Limits.{store_limit}
 use Rattle.cache_api.specs.Pairs.{Pair}
 use Rattle.record_log.specs.Kinds.{Entry, generation_of}
-use Rattle.record_log.specs.Frames.{Fault, reading, frames_of, IsSound}
+use Rattle.record_log.specs.Frames.{Fault, reading, frames_of, ends, IsSound}
 use Rattle.artifact_store.specs.Answers.{IsFaultOf}
 use Rattle.artifact_store.specs.declared.error.OpenErr.{OpenErr}
 use Rattle.artifact_store.specs.declared.error.OpenErr.TheVariants as opening
-use Rattle.artifact_store.specs.Pairs.{pairs_in, stands_for}
+use Rattle.artifact_store.specs.Pairs.{pairs_in, stands_for, free_in}
 use Rattle.compact.specs.declared.error.CurrentErr.{CurrentErr}
 use Rattle.compact.specs.declared.error.CurrentErr.TheVariants as two
 use Rattle.compact.specs.Answers.{IsFirstFault, IsSpareFault}
 use Rattle.compact.specs.declared.side.Side.{Side}
 use Rattle.compact.specs.declared.side.Side.TheVariants.{First, Spare}
-use Rattle.compact.specs.Current.{generation_in, newer_of, current_of, on_side}
+use Rattle.compact.specs.Current.{generation_in, pairs_held, newer_of, current_of, on_side}
 use Rattle.compact.specs.Current.{pairs_of}
-use Rattle.compact.proofs.Telling.{frames_same}
+use Rattle.compact.proofs.Telling.{frames_same, stands_itself}
 use Rattle.refusals.specs.declared.refusal.Refusal.{Refusal}
 use Rattle.refusals.specs.declared.refusal.StoreFile.{StoreFile}
 use Rattle.refusals.specs.declared.refusal.StoreFile.TheVariants as file
-use Rattle.store_answers.specs.Stores.{Stores, stores_of}
+use Rattle.answers.specs.Moments.{Held}
+use Rattle.store_answers.specs.Stores.{Stores, stores_of, held_in, held_by, if_both}
 use Rattle.store_answers.specs.Refused.{store_refusal, IsNoStore, IsNoStores}
 use Rattle.store_answers.specs.Refused.{IsStoreRefusal, IsCurrentRefusal}
 
@@ -36,6 +38,13 @@ stands_same a b same =
 
 pub generation_same : (a b : List ℕ) → reading a ≡ reading b → generation_in a ≡ generation_in b
 generation_same a b same = ap generation_of (frames_same a b same)
+
+free_same : (a b : List ℕ) → reading a ≡ reading b → free_in a ≡ free_in b
+free_same a b same = ap (λ (fs : List Entry). store_limit - ends fs) (frames_same a b same)
+
+-- a store holds what one holds that is read alike
+pub held_same : (a b : List ℕ) → reading a ≡ reading b → held_by a ≡ held_by b
+held_same a b same i = record { pairs = stands_same a b same i; free = free_same a b same i }
 
 -- ---- which of two is current
 
@@ -72,7 +81,60 @@ on_spare f s lt =
     ap (λ (side : Side). stands_for (on_side side f s))
     (newer_spare (generation_in f) (generation_in s) lt)
 
+-- ---- what both hold
+
+both_there : {A B C : Type 0} (a : Option A) (b : Option B) (c : Option C) (x : A) (y : B)
+    → a ≡ Some x → b ≡ Some y → if_both a b c ≡ c
+both_there (Some u) (Some v) c x y p q = refl
+both_there None b c x y p q = absurd (cc p)
+both_there (Some u) None c x y p q = absurd (cc q)
+
+module _ (a b : List ℕ) (sound : IsSound a) (also : IsSound b) where
+  pub both_hold : (held_in (stores_of a b)).pairs ≡ pairs_of a b
+  both_hold = both_there (stands_for a) (stands_for b) (pairs_of a b) (pairs_held a) (pairs_held b)
+      (stands_itself a sound) (stands_itself b also)
+
+  pub held_first : current_of a b ≡ First → held_in (stores_of a b) ≡ held_by a
+  held_first is i = record {
+    pairs = (both_hold ∙ ap (λ (side : Side). stands_for (on_side side a b)) is) i;
+    free = ap (λ (side : Side). free_in (on_side side a b)) is i;
+  }
+
+  pub held_spare : current_of a b ≡ Spare → held_in (stores_of a b) ≡ held_by b
+  held_spare is i = record {
+    pairs = (both_hold ∙ ap (λ (side : Side). stands_for (on_side side a b)) is) i;
+    free = ap (λ (side : Side). free_in (on_side side a b)) is i;
+  }
+
 -- ---- files that are no stores
+
+pub no_some : {X : Type 0} {x : X} → None ≡ Some x → ⊥
+no_some e = cc
+
+-- bytes that are no store stand for no pairs
+stands_none : (stored : List ℕ) (fault : Fault) → reading stored ≡ Err fault
+    → stands_for stored ≡ None
+unfolding stands_for
+stands_none stored fault bad = rw (bad, stands_for) refl
+
+if_first : {A B C : Type 0} (a : Option A) (b : Option B) (c : Option C) → a ≡ None
+    → if_both a b c ≡ None
+if_first None b c is = refl
+if_first (Some x) b c is = absurd (no_some (sym is))
+
+if_second : {A B C : Type 0} (a : Option A) (b : Option B) (c : Option C) → b ≡ None
+    → if_both a b c ≡ None
+if_second None b c is = refl
+if_second (Some x) None c is = refl
+if_second (Some x) (Some y) c is = absurd (no_some (sym is))
+
+-- where a store is none, nothing is held
+pub held_none : (stores : Stores) (reason : Refusal) → IsNoStores stores reason
+    → (held_in stores).pairs ≡ None
+held_none stores reason (inl bad) =
+    if_first _ _ _ (stands_none stores.store bad.fault bad.reads)
+held_none stores reason (inr (sound, bad)) =
+    if_second _ _ _ (stands_none stores.spare bad.fault bad.reads)
 
 no_both : {A B : Type 0} {r : Result A B} {x : A} {e : B} → r ≡ Ok x → r ≡ Err e → ⊥
 no_both ok err = let e = sym ok ∙ err in cc

@@ -1,8 +1,8 @@
--- What a call leaves that did not use the store, and of a refusal where the tree tells its files.
-use Rattle.std.proofs.Common.{ℕ, List, Ok, Err, inl}
+-- What a call leaves that did not use the stores, and what is said of answers part by part.
+use Rattle.std.proofs.Common.{ℕ, List, Ok, Err, inl, arith}
 use Rattle.std.specs.Prelude.{Result}
 use Rattle.store_dev.specs.Device.{LeavesOnly}
-use Rattle.artifact_store.specs.Pairs.{stands_for, IsOneOf}
+use Rattle.store_dev.specs.declared.device.StoreDevice.{Ghosts}
 use Rattle.spawn_dev.specs.declared.command.Step.{Step}
 use Rattle.cli_words.specs.declared.order.Order.{Order}
 use Rattle.cli_words.specs.declared.order.Order.TheVariants.{Run, Prune, Sample, Compact, Help}
@@ -12,31 +12,90 @@ use Rattle.refusals.specs.declared.refusal.Refusal.{Refusal}
 use Rattle.answers.specs.declared.answer.Answer.{Answer}
 use Rattle.answers.specs.declared.answer.Answer.TheVariants.{Done, Refused, TreeFault, StoreFault}
 use Rattle.answers.specs.declared.answer.Answer.TheVariants.{StartFault, SinkFault, OutOfMemory}
-use Rattle.answers.specs.Answers.{IfRefused}
+use Rattle.answers.specs.Answers.{IfDone, IfRefused}
 use Rattle.answers.specs.Moments.{Moment}
-use Rattle.run_orders.specs.Facts.{self_one, unchanged}
-use Rattle.turbo_app.specs.Images.{IsLeftBy}
+use Rattle.run_orders.specs.Images.{LeavesPairs}
+use Rattle.run_orders.specs.Facts.{OnlyNow, alone_adds, alone_pairs, alone_reread, self_both}
+use Rattle.run_orders.specs.Facts.{reread_other, unchanged}
+use Rattle.compact_orders.specs.Left.{AreReread}
+use Rattle.turbo_app.specs.Images.{AddsBy, IsLeftBy, Leaves, LeavesBy, RereadsBy}
+use Rattle.compact.specs.declared.side.Side.{Side}
 
--- whatever words ask for, they may leave what one of the images stood for
-pub one_by_words : (asked : Result Order WordsErr) (book : Book) (env : List (List ℕ × List ℕ))
-    (old : Moment) (steps : List Step) (images : List ℕ → Type 0) (c : List ℕ)
-    → IsOneOf images (stands_for c) → IsLeftBy asked book env old steps images c
-one_by_words (Err fault) book env old steps images c one = one
-one_by_words (Ok Help) book env old steps images c one = one
-one_by_words (Ok (Prune targets docker)) book env old steps images c one = one
-one_by_words (Ok (Sample size)) book env old steps images c one = one
-one_by_words (Ok (Compact keep)) book env old steps images c one = one
-one_by_words (Ok (Run order)) book env old steps images c one = inl one
+-- ---- devices that were left alone
 
-module _ {D : Type 0} (moment : D → ℕ) (since : D → ℕ → List ℕ → Type 0)
-    (images : D → List ℕ → Type 0) (device : D)
-    (only : (c : List ℕ) → since device (moment device) c → images device c) where
+-- whatever words ask for, an image adds to itself
+module _ {D : Type 0} (G : Ghosts D) (device : D) (only : OnlyNow G device) where
+  pub alone_by : (asked : Result Order WordsErr)
+      → LeavesOnly G.moment G.images_since device device (AddsBy asked (G.images device))
+  alone_by (Ok (Compact keep)) =
+      unchanged G.moment G.images_since G.images _ device only (λ c now all. all c now)
+  alone_by (Ok (Run order)) = alone_adds G device only
+  alone_by (Ok (Prune targets docker)) = alone_adds G device only
+  alone_by (Ok (Sample size)) = alone_adds G device only
+  alone_by (Ok Help) = alone_adds G device only
+  alone_by (Err fault) = alone_adds G device only
+
+module _ {S P : Type 0} (G : Ghosts S) (H : Ghosts P) (store : S) (spare : P)
+    (only : OnlyNow G store) (also : OnlyNow H spare) where
+  -- nothing is asked of them
+  pub alone_other : (asked : Result Order WordsErr) (side : Side)
+      → RereadsBy G H asked side store store spare spare
+  alone_other (Ok (Run order)) side = reread_other G H store store spare spare
+      (alone_reread G store only) (alone_reread H spare also) side
+  alone_other (Ok (Compact keep)) side = tt
+  alone_other (Ok (Prune targets docker)) side = tt
+  alone_other (Ok (Sample size)) side = tt
+  alone_other (Ok Help) side = tt
+  alone_other (Err fault) side = tt
+
+  -- they were at most opened again
+  pub alone_both : AreReread G H store store spare spare
+  alone_both = record {
+    of_store = alone_reread G store only;
+    of_spare = alone_reread H spare also;
+  }
+
+  -- at any moments, and so at any one moment
+  alone_leaves : (asked : Result Order WordsErr) (Q : List ℕ → List ℕ → Type 0)
+      → LeavesPairs G H store store spare spare Q → Leaves G H asked store store spare spare Q
+  alone_leaves (Ok (Compact keep)) Q all = record {
+    middle = store;
+    middle_spare = spare;
+    until = all;
+    later = omega arith;
+    spare_later = omega arith;
+    behind = all;
+  }
+  alone_leaves (Ok (Run order)) Q all = all
+  alone_leaves (Ok (Prune targets docker)) Q all = all
+  alone_leaves (Ok (Sample size)) Q all = all
+  alone_leaves (Ok Help) Q all = all
+  alone_leaves (Err fault) Q all = all
+
+  -- whatever words ask for, two images may stand for what they stood for
+  self_left : (asked : Result Order WordsErr) (book : Book) (env : List (List ℕ × List ℕ))
+      (old : Moment) (steps : List Step) (f s : List ℕ) → G.images store f → H.images spare s
+      → IsLeftBy asked book env old steps (G.images store) (H.images spare) f s
+  self_left (Ok (Compact keep)) book env old steps f s now then =
+      inl (self_both (G.images store) (H.images spare) f s now then)
+  self_left (Ok (Run order)) book env old steps f s now then =
+      inl (self_both (G.images store) (H.images spare) f s now then)
+  self_left (Ok (Prune targets docker)) book env old steps f s now then =
+      self_both (G.images store) (H.images spare) f s now then
+  self_left (Ok (Sample size)) book env old steps f s now then =
+      self_both (G.images store) (H.images spare) f s now then
+  self_left (Ok Help) book env old steps f s now then =
+      self_both (G.images store) (H.images spare) f s now then
+  self_left (Err fault) book env old steps f s now then =
+      self_both (G.images store) (H.images spare) f s now then
+
   pub alone_left : (asked : Result Order WordsErr) (book : Book) (env : List (List ℕ × List ℕ))
       (old : Moment) (steps : List Step)
-      → LeavesOnly moment since device device (IsLeftBy asked book env old steps (images device))
-  alone_left asked book env old steps = unchanged moment since images _ device only
-      (λ c now. one_by_words asked book env old steps (images device) c
-      (self_one (images device) c now))
+      → LeavesBy G H asked book env old steps store store spare spare
+  alone_left asked book env old steps = alone_leaves asked _
+      (alone_pairs G H store spare _ only also (self_left asked book env old steps))
+
+-- ---- answers
 
 -- what is said of an answer where the tree tells, is said of its refusal there
 pub refused_told : (tells : Type 0) (answer : Answer) (P : Refusal → Type 0)
@@ -48,3 +107,41 @@ refused_told tells StoreFault P said = tt
 refused_told tells StartFault P said = tt
 refused_told tells SinkFault P said = tt
 refused_told tells OutOfMemory P said = tt
+
+-- what is so whatever the reason is
+pub refused_all : (answer : Answer) (P : Refusal → Type 0) → ((reason : Refusal) → P reason)
+    → IfRefused answer P
+refused_all (Done status) P all = tt
+refused_all (Refused reason) P all = all reason
+refused_all TreeFault P all = tt
+refused_all StoreFault P all = tt
+refused_all StartFault P all = tt
+refused_all SinkFault P all = tt
+refused_all OutOfMemory P all = tt
+
+-- what is said twice of an answer
+pub refused_both : (answer : Answer) (P Q R : Refusal → Type 0)
+    → ((reason : Refusal) → P reason → Q reason → R reason)
+    → IfRefused answer P → IfRefused answer Q → IfRefused answer R
+refused_both (Done status) P Q R to p q = tt
+refused_both (Refused reason) P Q R to p q = to reason p q
+refused_both TreeFault P Q R to p q = tt
+refused_both StoreFault P Q R to p q = tt
+refused_both StartFault P Q R to p q = tt
+refused_both SinkFault P Q R to p q = tt
+refused_both OutOfMemory P Q R to p q = tt
+
+pub done_both : (answer : Answer) (P Q R : ℕ → Type 0)
+    → ((status : ℕ) → P status → Q status → R status)
+    → IfDone answer P → IfDone answer Q → IfDone answer R
+done_both (Done status) P Q R to p q = to status p q
+done_both (Refused reason) P Q R to p q = tt
+done_both TreeFault P Q R to p q = tt
+done_both StoreFault P Q R to p q = tt
+done_both StartFault P Q R to p q = tt
+done_both SinkFault P Q R to p q = tt
+done_both OutOfMemory P Q R to p q = tt
+
+pub done_as : (answer : Answer) (P Q : ℕ → Type 0) → ((status : ℕ) → P status → Q status)
+    → IfDone answer P → IfDone answer Q
+done_as answer P Q to p = done_both answer P P Q (λ status one other. to status one) p p

@@ -1,42 +1,49 @@
--- In a chain of images that began with an empty store all pairs tell the truth.
-use Rattle.std.proofs.Common.{◌≡◌, ℕ, List, [], ◌∷◌, ◌++◌, map, Option, Some, None, sym, ◌∙◌, ap}
+-- In a chain of two stores each that began with empty ones all pairs tell the truth.
+use Rattle.std.proofs.Common.{◌≡◌, ◌≤◌, inl, inr, ℕ, List, [], ◌∷◌, ◌++◌, length, Some, sym, ◌∙◌, ap, subst}
 use Rattle.std.specs.List.{AllByRecursion}
+use Rattle.std.proofs.lemmas.List.{append-nil, append_assoc}
 use Rattle.cache_api.specs.Pairs.{Pair}
+use Rattle.compact.specs.Chosen.{chosen}
+use Rattle.compact.specs.Current.{current_of, on_side, pairs_of}
+use Rattle.compact.specs.declared.side.Side.{Side}
+use Rattle.compact.specs.declared.side.Side.TheVariants.{First, Spare}
 use Rattle.artifact_store.specs.Pairs.{stands_for}
 use Rattle.run_laws.specs.Effects.{Book}
-use Rattle.run_laws.specs.Pairs.{IsGood, IsHistory}
-use Rattle.turbo_app.specs.Images.{IsChain, HasGoodPairs}
+use Rattle.run_laws.specs.PairLaws.{DueLaw}
+use Rattle.run_laws.specs.Pairs.{IsDue, IsGood}
+use Rattle.store_answers.specs.Stores.{Stores}
+use Rattle.run_orders.specs.Facts.{short_stands}
+use Rattle.turbo_app.specs.Images.{IsChain, HasGoodPairs, pairs_in}
+use Rattle.turbo_app.proofs.Truth.{good_chosen, same_pairs}
 
--- the pairs of the bytes, and none where they are no store
-abbrev pub pairs_of : List ℕ → List Pair
-pairs_of bytes = elim (stands_for bytes) as (λ _. List Pair) [ Some pairs ↦ pairs | None ↦ [] ]
+-- two empty stores have no pairs
+empty_on : (side : Side) (a b : List ℕ) → length a ≤ 9 → length b ≤ 9
+    → stands_for (on_side side a b) ≡ Some []
+empty_on First a b short also = short_stands a short
+empty_on Spare a b short also = short_stands b also
 
-pub pairs_are : (bytes : List ℕ) (pairs : List Pair) → stands_for bytes ≡ Some pairs
-    → pairs_of bytes ≡ pairs
-pairs_are bytes pairs is =
-    ap (λ (o : Option (List Pair)). elim o as (λ _. List Pair) [ Some l ↦ l | None ↦ [] ]) is
+pub none_in : (stores : Stores) → length stores.store ≤ 9 → length stores.spare ≤ 9
+    → pairs_in stores ≡ Some []
+none_in stores short also =
+    empty_on (current_of stores.store stores.spare) stores.store stores.spare short also
 
-module _ (book : Book) where
-  pub history : (before : List ℕ) (images : List (List ℕ)) → IsChain book before images
-      → IsHistory book (pairs_of before) (map pairs_of images)
-  history before [] chain = tt
-  history before (image ∷ later) chain =
-      let step = chain.0 in (
-        record {
-          added = step.added;
-          is = pairs_are image _ step.is
-              ∙ ap (λ (l : List Pair). l ++ step.added) (sym (pairs_are before step.pairs step.was));
-          due = step.due;
-        },
-        history image later chain.1,
-      )
+module _ (law : DueLaw) (book : Book) where
+  -- pairs that are due may stand behind others
+  adds : (before added : List Pair) → IsGood book before → AllByRecursion (IsDue book) added
+      → IsGood book (before ++ added)
+  adds before [] good due = subst (λ (l : List Pair). IsGood book l) (sym (append-nil before)) good
+  adds before (pair ∷ added) good due =
+      subst (λ (l : List Pair). IsGood book l) (append_assoc before (pair ∷ []) added)
+      (adds (before ++ pair ∷ []) added (law book before pair good due.0) due.1)
 
-  pub good_images : (before : List ℕ) (images : List (List ℕ)) → IsChain book before images
-      → AllByRecursion (IsGood book) (map pairs_of images)
-      → AllByRecursion (HasGoodPairs book) images
-  good_images before [] chain good = tt
-  good_images before (image ∷ later) chain good =
-      let is = chain.0.is in (
-        (pairs_of image, is ∙ ap (λ (l : List Pair). Some l) (sym (pairs_are image _ is)), good.0),
-        good_images image later chain.1 good.1,
-      )
+  -- from one on
+  pub good_from : (before : Stores) (pairs : List Pair) → pairs_in before ≡ Some pairs
+      → IsGood book pairs → (later : List Stores) → IsChain book before later
+      → AllByRecursion (HasGoodPairs book) later
+  good_from before pairs is good [] chain = tt
+  good_from before pairs is good (stores ∷ later) (inl x, chain) =
+      let now = adds x.pairs x.added (subst (λ (l : List Pair). IsGood book l) (same_pairs (sym is ∙ x.was)) good) x.due in
+      ((x.pairs ++ x.added, x.is, now), good_from stores (x.pairs ++ x.added) x.is now later chain)
+  good_from before pairs is good (stores ∷ later) (inr x, chain) =
+      let now = good_chosen book x.pairs x.keep (subst (λ (l : List Pair). IsGood book l) (same_pairs (sym is ∙ x.was)) good) in
+      ((chosen x.pairs x.keep, x.is, now), good_from stores (chosen x.pairs x.keep) x.is now later chain)

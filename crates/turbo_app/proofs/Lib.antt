@@ -1,3 +1,4 @@
 mod Alone
 mod Chain
+mod Compacting
 mod Truth

@@ -1,48 +1,77 @@
 -- What a call leaves tells the truth, where what it began with did.
-use Rattle.std.proofs.Common.{◌≡◌, inl, inr, ℕ, Bool, true, false, List, [], Some, None, Ok, Err, sym, ◌∙◌, ap, subst}
-use Rattle.std.specs.Prelude.{Option, Result}
+use Rattle.std.proofs.Common.{◌≡◌, inl, inr, ℕ, Bool, true, false, List, [], ◌∷◌, Some, None, Ok, Err, refl, sym, ◌∙◌, ap, subst}
+use Rattle.std.specs.Prelude.{Option, Result, All}
+use Rattle.std.proofs.lemmas.List.Elements.{All-from_recursion, recursion_from_All, All-head, All-tail}
 use Rattle.cache_api.specs.Pairs.{Pair}
-use Rattle.artifact_store.specs.Pairs.{stands_for, IsOneOf}
+use Rattle.compact.specs.Chosen.{chosen}
+use Rattle.compact.specs.Current.{pairs_of}
+use Rattle.compact.proofs.Chaining.{chain_law}
 use Rattle.spawn_dev.specs.declared.command.Step.{Step}
 use Rattle.cli_words.specs.declared.order.Order.{Order}
 use Rattle.cli_words.specs.declared.order.Order.TheVariants.{Run, Prune, Sample, Compact, Help}
 use Rattle.cli_words.specs.declared.order.RunOrder.{RunOrder}
 use Rattle.cli_words.specs.declared.error.WordsErr.{WordsErr}
 use Rattle.run_laws.specs.Effects.{Book}
-use Rattle.run_laws.specs.Pairs.{IsGood}
+use Rattle.run_laws.specs.Pairs.{IsGood, IsGoodPair}
 use Rattle.run_plan.specs.declared.plan.Plan.{Plan}
 use Rattle.answers.specs.Moments.{Moment}
-use Rattle.run_orders.specs.Images.{IsLeftByOrder, IsLeftByPlan}
-use Rattle.turbo_app.specs.Images.{IsLeftBy, TellsTruth}
+use Rattle.run_orders.specs.Images.{IsLeftByOrder, IsLeftByPlan, IsLeftOfHeld, IsOneOfBoth}
+use Rattle.turbo_app.specs.Images.{HeldTruth, IsChosenOfBoth, IsLeftBy, TellsTruth}
 
-same_pairs : {a b : List Pair} → Some a ≡ Some b → a ≡ b
+pub same_pairs : {a b : List Pair} → Some a ≡ Some b → a ≡ b
 same_pairs is =
     ap (λ (o : Option (List Pair)). elim o as (λ _. List Pair) [ Some l ↦ l | None ↦ [] ]) is
 
-module _ (book : Book) (images : List ℕ → Type 0)
-    (truth : (d : List ℕ) → images d → TellsTruth book d)
-    (env : List (List ℕ × List ℕ)) (old : Moment) (steps : List Step) (c : List ℕ) where
-  truth_of_one : IsOneOf images (stands_for c) → TellsTruth book c
-  truth_of_one (d, now, same) pairs is = truth d now pairs (sym same ∙ is)
+-- what is kept of pairs that tell the truth does so too
+pub good_chosen : (book : Book) (pairs : List Pair) (keep : Option ℕ) → IsGood book pairs
+    → IsGood book (chosen pairs keep)
+good_chosen book pairs keep good =
+    let Good : Pair → Type 0 = IsGoodPair book in
+    let kept = chosen pairs keep in
+    let all = chain_law Good (pairs ∷ kept ∷ []) (
+      inl (record { added = pairs; is = refl; good = All-from_recursion Good pairs good }),
+      (inr (record { keep = keep; is = refl }), tt),
+    ) in
+    let Each : List Pair → Type 0 = λ l. All Good l in
+    recursion_from_All Good kept
+    (All-head Each kept [] (All-tail Each pairs (kept ∷ []) all))
+
+module _ (book : Book) (stores spares : List ℕ → Type 0)
+    (truth : (d e : List ℕ) → stores d → spares e → TellsTruth book d e)
+    (env : List (List ℕ × List ℕ)) (old : Moment) (held : HeldTruth book old)
+    (steps : List Step) (f s : List ℕ) where
+  -- these are the pairs, and they tell the truth
+  told : (pairs : List Pair) → pairs_of f s ≡ Some pairs → IsGood book pairs → TellsTruth book f s
+  told pairs is good other also = subst (λ (l : List Pair). IsGood book l) (same_pairs (sym is ∙ also)) good
+
+  truth_of_one : IsOneOfBoth stores spares f s → TellsTruth book f s
+  truth_of_one (d, e, now, then, same) pairs is = truth d e now then pairs (sym same ∙ is)
+
+  truth_of_chosen : (keep : Option ℕ) → IsChosenOfBoth keep stores spares f s → TellsTruth book f s
+  truth_of_chosen keep x = told (chosen x.pairs keep) x.is (good_chosen book x.pairs keep
+      (truth x.store x.spare x.was_store x.was_spare x.pairs x.was))
+
+  truth_of_held : (is_dry : Bool) (plan : Plan)
+      → IsLeftOfHeld is_dry book plan old steps (pairs_of f s) → TellsTruth book f s
+  truth_of_held true plan (pairs, was, is) = told pairs is (held pairs was)
+  truth_of_held false plan (pairs, was, (room, said)) = told said.0 said.1 said.2.good
 
   truth_by_plan : (is_dry : Bool) (plan : Plan)
-      → IsLeftByPlan is_dry book plan old steps images c → TellsTruth book c
-  truth_by_plan true plan one = truth_of_one one
-  truth_by_plan false plan (inl one) = truth_of_one one
-  truth_by_plan false plan (inr left) =
-      let said = left.2.1 in
-      λ pairs is. subst (λ (l : List Pair). IsGood book l) (same_pairs (sym said.1 ∙ is)) said.2.good
+      → IsLeftByPlan is_dry book plan old steps stores spares f s → TellsTruth book f s
+  truth_by_plan is_dry plan (inl one) = truth_of_one one
+  truth_by_plan is_dry plan (inr left) = truth_of_held is_dry plan left
 
-  truth_by_order : (order : RunOrder) → IsLeftByOrder order book env old steps images c
-      → TellsTruth book c
+  truth_by_order : (order : RunOrder) → IsLeftByOrder order book env old steps stores spares f s
+      → TellsTruth book f s
   truth_by_order order (inl one) = truth_of_one one
   truth_by_order order (inr left) = truth_by_plan order.dry left.0 left.2
 
   pub truth_by_words : (asked : Result Order WordsErr)
-      → IsLeftBy asked book env old steps images c → TellsTruth book c
+      → IsLeftBy asked book env old steps stores spares f s → TellsTruth book f s
   truth_by_words (Err fault) one = truth_of_one one
   truth_by_words (Ok Help) one = truth_of_one one
   truth_by_words (Ok (Prune targets docker)) one = truth_of_one one
   truth_by_words (Ok (Sample size)) one = truth_of_one one
-  truth_by_words (Ok (Compact keep)) one = truth_of_one one
+  truth_by_words (Ok (Compact keep)) (inl one) = truth_of_one one
+  truth_by_words (Ok (Compact keep)) (inr kept) = truth_of_chosen keep kept
   truth_by_words (Ok (Run order)) left = truth_by_order order left

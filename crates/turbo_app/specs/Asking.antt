@@ -1,5 +1,4 @@
--- What words ask for, over the files of a repository and the bytes of a store, and why they are
--- refused.
+-- What words ask for, over the files of a repository and its stores, and why they are refused.
 use Rattle.std.specs.Prelude.{◌≡◌, ℕ, List, Result, Ok, Err}
 use Rattle.rel_path.specs.Files.{FileMap}
 use Rattle.cli_words.specs.declared.order.Order.{Order}
@@ -10,32 +9,33 @@ use Rattle.refusals.specs.declared.refusal.Refusal.{Refusal}
 use Rattle.refusals.specs.declared.refusal.Refusal.TheVariants as refusal
 use Rattle.answers.specs.declared.answer.Answer.{Answer}
 use Rattle.answers.specs.Answers.{IsNothingBut}
+use Rattle.store_answers.specs.Stores.{Stores}
 use Rattle.run_orders.specs.Asking.{IsRefusedRunOrder}
 use Rattle.prune_orders.specs.Asking.{IsRefusedPrune}
-use Rattle.turbo_app.specs.declared.unbuilt.TheConstants.{COMPACT_FORM}
+use Rattle.compact_orders.specs.Asking.{IsRefusedCompact}
 
--- Why an order, or what is none, is refused. What is not built is refused before anything is read.
+-- why an order, or what is none, is refused
 abbrev pub IsRefusedOrder :
-    Result Order WordsErr → List (List ℕ × List ℕ) → FileMap → List ℕ → Refusal → Type 0
-IsRefusedOrder (Err fault) env files stored reason = reason ≡ refusal.Words fault
-IsRefusedOrder (Ok (Run order)) env files stored reason =
-    IsRefusedRunOrder order env files stored reason
-IsRefusedOrder (Ok (Prune targets docker)) env files stored reason =
+    Result Order WordsErr → List (List ℕ × List ℕ) → FileMap → Stores → Refusal → Type 0
+IsRefusedOrder (Err fault) env files stores reason = reason ≡ refusal.Words fault
+IsRefusedOrder (Ok (Run order)) env files stores reason =
+    IsRefusedRunOrder order env files stores reason
+IsRefusedOrder (Ok (Prune targets docker)) env files stores reason =
     IsRefusedPrune targets files reason
-IsRefusedOrder (Ok (Sample size)) env files stored reason = ⊥
-IsRefusedOrder (Ok (Compact keep)) env files stored reason = reason ≡ refusal.NotBuilt COMPACT_FORM
-IsRefusedOrder (Ok Help) env files stored reason = ⊥
+IsRefusedOrder (Ok (Compact keep)) env files stores reason = IsRefusedCompact keep stores reason
+IsRefusedOrder (Ok (Sample size)) env files stores reason = ⊥
+IsRefusedOrder (Ok Help) env files stores reason = ⊥
 
 -- why words are refused
-abbrev pub IsRefused : List (List ℕ) → List (List ℕ × List ℕ) → FileMap → List ℕ → Refusal → Type 0
-IsRefused words env files stored reason = IsRefusedOrder (order_of words) env files stored reason
+abbrev pub IsRefused : List (List ℕ) → List (List ℕ × List ℕ) → FileMap → Stores → Refusal → Type 0
+IsRefused words env files stores reason = IsRefusedOrder (order_of words) env files stores reason
 
 -- where there is a reason to refuse the words, nothing is answered but that refusal, a fault of a
 -- device or want of memory
 abbrev pub HasNoOtherBy :
-    Result Order WordsErr → List (List ℕ × List ℕ) → FileMap → List ℕ → Answer → Type 0
-HasNoOtherBy asked env files stored answer =
-    (reason : Refusal) → IsRefusedOrder asked env files stored reason → IsNothingBut reason answer
+    Result Order WordsErr → List (List ℕ × List ℕ) → FileMap → Stores → Answer → Type 0
+HasNoOtherBy asked env files stores answer =
+    (reason : Refusal) → IsRefusedOrder asked env files stores reason → IsNothingBut reason answer
 
-abbrev pub HasNoOther : List (List ℕ) → List (List ℕ × List ℕ) → FileMap → List ℕ → Answer → Type 0
-HasNoOther words env files stored answer = HasNoOtherBy (order_of words) env files stored answer
+abbrev pub HasNoOther : List (List ℕ) → List (List ℕ × List ℕ) → FileMap → Stores → Answer → Type 0
+HasNoOther words env files stores answer = HasNoOtherBy (order_of words) env files stores answer

@@ -1,10 +1,13 @@
--- What a crash leaves of the store at any moment of a call.
-use Rattle.std.specs.Prelude.{◌≡◌, ◌≤◌, ℕ, List, [], ◌∷◌, ◌++◌, length}
+-- What a crash leaves of the stores at any moment of a call.
+use Rattle.std.specs.Prelude.{◌≡◌, ◌⊎◌, ◌≤◌, ℕ, List, [], ◌∷◌, ◌++◌, length, Option}
 use Rattle.std.specs.Prelude.{Some, Result, Ok, Err, ⊤}
 use Rattle.std.specs.List.{AllByRecursion}
 use Rattle.store_dev.specs.Device.{Only}
+use Rattle.store_dev.specs.declared.device.StoreDevice.{Ghosts}
 use Rattle.cache_api.specs.Pairs.{Pair}
-use Rattle.artifact_store.specs.Pairs.{stands_for, IsOneOf}
+use Rattle.compact.specs.Chosen.{chosen}
+use Rattle.compact.specs.Current.{pairs_of}
+use Rattle.compact.specs.declared.side.Side.{Side}
 use Rattle.spawn_dev.specs.declared.command.Step.{Step}
 use Rattle.cli_words.specs.declared.order.Order.{Order}
 use Rattle.cli_words.specs.declared.order.Order.TheVariants.{Run, Prune, Sample, Compact, Help}
@@ -13,7 +16,10 @@ use Rattle.cli_words.specs.Orders.{order_of}
 use Rattle.run_laws.specs.Effects.{Book}
 use Rattle.run_laws.specs.Pairs.{IsDue, IsGood}
 use Rattle.answers.specs.Moments.{Moment}
-use Rattle.run_orders.specs.Images.{IsLeftByOrder, IsTrustedOrder}
+use Rattle.store_answers.specs.Stores.{Stores}
+use Rattle.run_orders.specs.Images.{AddsTo, IsLeftByOrder, IsOneOfBoth, IsTrustedOrder}
+use Rattle.run_orders.specs.Images.{LeavesPairs, RereadsOther}
+use Rattle.compact_orders.specs.Left.{KeepsSound}
 
 -- ---- what a run is trusted in
 
@@ -29,69 +35,149 @@ IsTrustedBy (Ok (Run order)) book env old = IsTrustedOrder order book env old
 abbrev pub IsTrustedIn : List (List ℕ) → Book → List (List ℕ × List ℕ) → Moment → Type 0
 IsTrustedIn words book env old = IsTrustedBy (order_of words) book env old
 
--- ---- what a crash leaves
+-- ---- what a crash leaves of each device
 
--- all but orders to run leave what one of the images stood for as the call began
-abbrev pub IsLeftBy : Result Order WordsErr → Book → List (List ℕ × List ℕ) → Moment → List Step
-    → (List ℕ → Type 0) → List ℕ → Type 0
-IsLeftBy (Err fault) book env old steps images c = IsOneOf images (stands_for c)
-IsLeftBy (Ok Help) book env old steps images c = IsOneOf images (stands_for c)
-IsLeftBy (Ok (Prune targets docker)) book env old steps images c = IsOneOf images (stands_for c)
-IsLeftBy (Ok (Sample size)) book env old steps images c = IsOneOf images (stands_for c)
-IsLeftBy (Ok (Compact keep)) book env old steps images c = IsOneOf images (stands_for c)
-IsLeftBy (Ok (Run order)) book env old steps images c =
-    IsLeftByOrder order book env old steps images c
+-- Each image adds to one that there was as the call began; of orders to compact each is sound where
+-- those were.
+abbrev pub AddsBy : Result Order WordsErr → (List ℕ → Type 0) → List ℕ → Type 0
+AddsBy (Ok (Compact keep)) images c = KeepsSound images c
+AddsBy (Ok (Run order)) images c = AddsTo images c
+AddsBy (Ok (Prune targets docker)) images c = AddsTo images c
+AddsBy (Ok (Sample size)) images c = AddsTo images c
+AddsBy (Ok Help) images c = AddsTo images c
+AddsBy (Err fault) images c = AddsTo images c
 
--- what a call leaves of the store
-abbrev pub MayBeLeft : List (List ℕ) → Book → List (List ℕ × List ℕ) → Moment → List Step
-    → (List ℕ → Type 0) → List ℕ → Type 0
-MayBeLeft words book env old steps images c =
-    IsLeftBy (order_of words) book env old steps images c
-
--- where an order to run came to its end, a crash leaves the bytes of the store alone
+-- where an order to run or to compact came to its end, a crash leaves the bytes of a store alone
 abbrev pub LastsBy : Result Order WordsErr → List ℕ → (List ℕ → Type 0) → Type 0
 LastsBy (Err fault) bytes images = ⊤
 LastsBy (Ok Help) bytes images = ⊤
 LastsBy (Ok (Prune targets docker)) bytes images = ⊤
 LastsBy (Ok (Sample size)) bytes images = ⊤
-LastsBy (Ok (Compact keep)) bytes images = ⊤
+LastsBy (Ok (Compact keep)) bytes images = Only bytes images
 LastsBy (Ok (Run order)) bytes images = Only bytes images
 
 abbrev pub Lasts : List (List ℕ) → List ℕ → (List ℕ → Type 0) → Type 0
 Lasts words bytes images = LastsBy (order_of words) bytes images
 
+-- ---- what it leaves of both
+
+-- what compaction keeps of the current one of two such images is what that of these stands for
+pub record IsChosenOfBoth (keep : Option ℕ) (stores spares : List ℕ → Type 0) (f s : List ℕ)
+    : Type 0 where
+  pub store : List ℕ
+  pub spare : List ℕ
+  pub was_store : stores store
+  pub was_spare : spares spare
+  pub pairs : List Pair
+  pub was : pairs_of store spare ≡ Some pairs
+  pub is : pairs_of f s ≡ Some (chosen pairs keep)
+
+-- What the current one of two images stands for: what that of two such images stood for as the call
+-- began; of an order to run perhaps that and some first part of what is due by its steps, and of an
+-- order to compact perhaps what is kept of it.
+abbrev pub IsLeftBy : Result Order WordsErr → Book → List (List ℕ × List ℕ) → Moment → List Step
+    → (List ℕ → Type 0) → (List ℕ → Type 0) → List ℕ → List ℕ → Type 0
+IsLeftBy (Err fault) book env old steps stores spares f s = IsOneOfBoth stores spares f s
+IsLeftBy (Ok Help) book env old steps stores spares f s = IsOneOfBoth stores spares f s
+IsLeftBy (Ok (Prune targets docker)) book env old steps stores spares f s =
+    IsOneOfBoth stores spares f s
+IsLeftBy (Ok (Sample size)) book env old steps stores spares f s = IsOneOfBoth stores spares f s
+IsLeftBy (Ok (Compact keep)) book env old steps stores spares f s =
+    IsOneOfBoth stores spares f s ⊎ IsChosenOfBoth keep stores spares f s
+IsLeftBy (Ok (Run order)) book env old steps stores spares f s =
+    IsLeftByOrder order book env old steps stores spares f s
+
+-- At each moment of a call an image of the one device and one of the other leave what has Q: at
+-- those up to some state of both, and at those behind it.
+pub record LeavesAtOnce {S P : Type 0} (G : Ghosts S) (H : Ghosts P) (old new : S) (spare then : P)
+    (Q : List ℕ → List ℕ → Type 0) : Type 0 where
+  pub middle : S
+  pub middle_spare : P
+  pub until : LeavesPairs G H old middle spare middle_spare Q
+  pub later : G.moment middle ≤ G.moment new
+  pub spare_later : H.moment middle_spare ≤ H.moment then
+  pub behind : LeavesPairs G H middle new middle_spare then Q
+
+-- at any moments of a call, the one device and the other; of an order to compact at any one moment
+abbrev pub Leaves : {S P : Type 0} → Ghosts S → Ghosts P → Result Order WordsErr → S → S → P → P
+    → (List ℕ → List ℕ → Type 0) → Type 0
+Leaves G H (Ok (Compact keep)) old new spare then Q = LeavesAtOnce G H old new spare then Q
+Leaves G H (Ok (Run order)) old new spare then Q = LeavesPairs G H old new spare then Q
+Leaves G H (Ok (Prune targets docker)) old new spare then Q = LeavesPairs G H old new spare then Q
+Leaves G H (Ok (Sample size)) old new spare then Q = LeavesPairs G H old new spare then Q
+Leaves G H (Ok Help) old new spare then Q = LeavesPairs G H old new spare then Q
+Leaves G H (Err fault) old new spare then Q = LeavesPairs G H old new spare then Q
+
+-- what a call of these words leaves
+abbrev pub LeavesBy : {S P : Type 0} → Ghosts S → Ghosts P → Result Order WordsErr → Book
+    → List (List ℕ × List ℕ) → Moment → List Step → S → S → P → P → Type 0
+LeavesBy G H asked book env old steps store new spare then = Leaves G H asked store new spare then
+    (IsLeftBy asked book env old steps (G.images store) (H.images spare))
+
+-- of an order to run, the store that was not current was at most opened again
+abbrev pub RereadsBy : {S P : Type 0} → Ghosts S → Ghosts P → Result Order WordsErr → Side → S → S
+    → P → P → Type 0
+RereadsBy G H (Ok (Run order)) side old new spare then = RereadsOther G H side old new spare then
+RereadsBy G H (Ok (Compact keep)) side old new spare then = ⊤
+RereadsBy G H (Ok (Prune targets docker)) side old new spare then = ⊤
+RereadsBy G H (Ok (Sample size)) side old new spare then = ⊤
+RereadsBy G H (Ok Help) side old new spare then = ⊤
+RereadsBy G H (Err fault) side old new spare then = ⊤
+
+-- ---- what the pairs tell
+
+-- whatever pairs the current one of two images stands for tell the truth
+abbrev pub TellsTruth : Book → List ℕ → List ℕ → Type 0
+TellsTruth book f s = (pairs : List Pair) → pairs_of f s ≡ Some pairs → IsGood book pairs
+
+-- and so do those that the stores hold
+abbrev pub HeldTruth : Book → Moment → Type 0
+HeldTruth book old = (pairs : List Pair) → old.held.pairs ≡ Some pairs → IsGood book pairs
+
+-- Where what the stores held told the truth as a call began, and what each image of the one with
+-- each image of the other stood for, so does what it leaves.
+abbrev pub TruthLaw : {S P : Type 0} → (S → List ℕ → Type 0) → (P → List ℕ → Type 0) → Type 0
+TruthLaw {S} {P} stores spares = (store : S) (spare : P) (words : List (List ℕ)) (book : Book)
+    (env : List (List ℕ × List ℕ)) (old : Moment) (steps : List Step)
+    → ((d e : List ℕ) → stores store d → spares spare e → TellsTruth book d e)
+    → HeldTruth book old → (f s : List ℕ)
+    → IsLeftBy (order_of words) book env old steps (stores store) (spares spare) f s
+    → TellsTruth book f s
+
 -- ---- one image after another
 
--- the bytes are a store of the pairs of those, and behind them pairs that are due
-pub record AddsDue (book : Book) (d c : List ℕ) : Type 0 where
+-- what the current one of two stores stands for
+abbrev pub pairs_in : Stores → Option (List Pair)
+pairs_in stores = pairs_of stores.store stores.spare
+
+-- a run adds pairs that are due
+pub record AddsDue (book : Book) (old new : Stores) : Type 0 where
   pub pairs : List Pair
-  pub was : stands_for d ≡ Some pairs
+  pub was : pairs_in old ≡ Some pairs
   pub added : List Pair
-  pub is : stands_for c ≡ Some (pairs ++ added)
+  pub is : pairs_in new ≡ Some (pairs ++ added)
   pub due : AllByRecursion (IsDue book) added
 
--- each of these adds to the one before it
-abbrev pub IsChain : Book → List ℕ → List (List ℕ) → Type 0
+-- a compaction keeps some
+pub record KeepsChosen (old new : Stores) : Type 0 where
+  pub pairs : List Pair
+  pub was : pairs_in old ≡ Some pairs
+  pub keep : Option ℕ
+  pub is : pairs_in new ≡ Some (chosen pairs keep)
+
+-- each of these is left of the one before it by a run or by a compaction
+abbrev pub IsChain : Book → Stores → List Stores → Type 0
 IsChain book before [] = ⊤
-IsChain book before (image ∷ later) = AddsDue book before image × IsChain book image later
+IsChain book before (stores ∷ later) =
+    (AddsDue book before stores ⊎ KeepsChosen before stores) × IsChain book stores later
 
--- the bytes are a store whose pairs tell the truth
-abbrev pub HasGoodPairs : Book → List ℕ → Type 0
-HasGoodPairs book image = (pairs : List Pair) × (stands_for image ≡ Some pairs) × IsGood book pairs
+-- the current one is a store whose pairs tell the truth
+abbrev pub HasGoodPairs : Book → Stores → Type 0
+HasGoodPairs book stores = (pairs : List Pair) × (pairs_in stores ≡ Some pairs) × IsGood book pairs
 
--- In a chain that began with an empty store, which has at most nine bytes, all pairs tell the
--- truth.
+-- In a chain that began with two empty stores, which have at most nine bytes each, all pairs tell
+-- the truth.
 abbrev pub ImageLaw : Type 0
-ImageLaw = (book : Book) (first : List ℕ) (images : List (List ℕ)) → length first ≤ 9
-    → IsChain book first images → AllByRecursion (HasGoodPairs book) images
-
--- whatever pairs the bytes stand for tell the truth
-abbrev pub TellsTruth : Book → List ℕ → Type 0
-TellsTruth book c = (pairs : List Pair) → stands_for c ≡ Some pairs → IsGood book pairs
-
--- Where each image of a store told the truth as a call began, so does each image that it leaves.
-abbrev pub TruthLaw : {S : Type 0} → (S → List ℕ → Type 0) → Type 0
-TruthLaw {S} images = (store : S) (words : List (List ℕ)) (book : Book)
-    (env : List (List ℕ × List ℕ)) (old : Moment) (steps : List Step)
-    → ((d : List ℕ) → images store d → TellsTruth book d)
-    → (c : List ℕ) → MayBeLeft words book env old steps (images store) c → TellsTruth book c
+ImageLaw = (book : Book) (first : Stores) (images : List Stores) → length first.store ≤ 9
+    → length first.spare ≤ 9 → IsChain book first images
+    → AllByRecursion (HasGoodPairs book) images

@@ -1,5 +1,6 @@
 -- What a call that came to its end leaves.
-use Rattle.std.specs.Prelude.{◌≡◌, ℕ, Bool, List, ◌++◌, Result, Ok, Err, codes, ⊤}
+use Rattle.std.specs.Prelude.{◌≡◌, ℕ, Bool, List, ◌++◌, Option, Some, Result, Ok, Err, codes, ⊤}
+use Rattle.store_dev.specs.declared.device.StoreDevice.{Ghosts}
 use Rattle.rel_path.specs.Files.{FileMap}
 use Rattle.cli_words.specs.declared.order.Order.{Order}
 use Rattle.cli_words.specs.declared.order.Order.TheVariants.{Run, Prune, Sample, Compact, Help}
@@ -12,8 +13,12 @@ use Rattle.answers.specs.declared.answer.Answer.{Answer}
 use Rattle.answers.specs.Answers.{IfDone, IfRefused}
 use Rattle.answers.specs.Moments.{Moment}
 use Rattle.run_orders.specs.Outcomes.{RanOrder, MayChangeRun}
-use Rattle.prune_orders.specs.Outcomes.{LeavesRefused, PrunedAll, SameOutside}
-use Rattle.turbo_app.specs.declared.unbuilt.TheConstants.{COMPACT_FORM}
+use Rattle.prune_orders.specs.Outcomes.{PrunedAll, SameOutside}
+use Rattle.prune_orders.specs.Outcomes as prunes
+use Rattle.compact_orders.specs.Asking.{kept_pairs}
+use Rattle.compact_orders.specs.Outcomes.{Compacted}
+use Rattle.compact_orders.specs.Left.{AreReread, LeavesRefused}
+use Rattle.store_answers.specs.Stores.{Stores}
 use Rattle.sample.specs.Lines.{PutsSample}
 
 abbrev pub usage : List ℕ
@@ -23,8 +28,14 @@ usage = codes "usage: turbo [run] <task>... [options] [-- words]\n"
 pub record Helped (Heard : Type 0) (old new : Moment) (status : ℕ) : Type 0 where
   pub files : new.files ≡ old.files
   pub steps : new.steps ≡ old.steps
-  pub stored : new.stored ≡ old.stored
   pub page_is : Heard → new.printed ≡ old.printed ++ usage
+  pub status_is : status ≡ 0
+
+-- a sample: nothing but its lines
+pub record Sampled (size : ℕ) (Heard : Type 0) (old new : Moment) (status : ℕ) : Type 0 where
+  pub files : new.files ≡ old.files
+  pub steps : new.steps ≡ old.steps
+  pub page_is : Heard → PutsSample size old.printed new.printed
   pub status_is : status ≡ 0
 
 -- pruning: the files and what was printed, and nothing else
@@ -32,37 +43,39 @@ pub record Pruned (docker : Bool) (targets : List (List ℕ)) (Heard : Type 0) (
     (status : ℕ) : Type 0 where
   pub all : PrunedAll docker targets Heard old.files new.files old.printed new.printed status
   pub steps : new.steps ≡ old.steps
-  pub stored : new.stored ≡ old.stored
 
--- a sample: nothing but its lines
-pub record Sampled (size : ℕ) (Heard : Type 0) (old new : Moment) (status : ℕ) : Type 0 where
+-- compaction: the current one of the stores has what is kept of it, and the line was printed
+pub record MadeSmaller (keep : Option ℕ) (Heard : Type 0) (stores : Stores) (old new : Moment)
+    (status : ℕ) : Type 0 where
   pub files : new.files ≡ old.files
   pub steps : new.steps ≡ old.steps
-  pub stored : new.stored ≡ old.stored
-  pub page_is : Heard → PutsSample size old.printed new.printed
-  pub status_is : status ≡ 0
+  pub pairs : new.held.pairs ≡ Some (kept_pairs keep stores)
+  pub made : Compacted keep Heard stores old.printed new.printed status
 
-abbrev pub DidOrder : Result Order WordsErr → Book → List (List ℕ × List ℕ) → Type 0 → Moment
-    → Moment → ℕ → Type 0
-DidOrder (Err fault) book env Heard old new status = ⊥
-DidOrder (Ok Help) book env Heard old new status = Helped Heard old new status
-DidOrder (Ok (Prune targets docker)) book env Heard old new status =
+-- what an order did over these stores
+abbrev pub DidOrder : Result Order WordsErr → Book → List (List ℕ × List ℕ) → Type 0 → Stores
+    → Moment → Moment → ℕ → Type 0
+DidOrder (Err fault) book env Heard stores old new status = ⊥
+DidOrder (Ok Help) book env Heard stores old new status = Helped Heard old new status
+DidOrder (Ok (Prune targets docker)) book env Heard stores old new status =
     Pruned docker targets Heard old new status
-DidOrder (Ok (Sample size)) book env Heard old new status = Sampled size Heard old new status
-DidOrder (Ok (Compact keep)) book env Heard old new status = ⊥
-DidOrder (Ok (Run order)) book env Heard old new status =
+DidOrder (Ok (Sample size)) book env Heard stores old new status =
+    Sampled size Heard old new status
+DidOrder (Ok (Compact keep)) book env Heard stores old new status =
+    MadeSmaller keep Heard stores old new status
+DidOrder (Ok (Run order)) book env Heard stores old new status =
     RanOrder book order env Heard old new status
 
 -- what the words ask for was done
-abbrev pub Did : List (List ℕ) → Book → List (List ℕ × List ℕ) → Type 0 → Moment → Moment → ℕ
-    → Type 0
-Did words book env Heard old new status =
-    DidOrder (order_of words) book env Heard old new status
+abbrev pub Did : List (List ℕ) → Book → List (List ℕ × List ℕ) → Type 0 → Stores → Moment
+    → Moment → ℕ → Type 0
+Did words book env Heard stores old new status =
+    DidOrder (order_of words) book env Heard stores old new status
 
 -- ---- what no device has a say in
 
--- Words that are no order are refused, help prints the line of usage and a sample its lines, and
--- what is not built is refused, whatever the files, the store and the environment are.
+-- Words that are no order are refused, help prints the line of usage, and a sample its lines,
+-- whatever the files, the stores and the environment are.
 abbrev pub AnsweredAlone : Result Order WordsErr → Type 0 → List ℕ → List ℕ → Answer → Type 0
 AnsweredAlone (Err fault) Heard before after answer =
     IfDone answer (λ _. ⊥) × IfRefused answer (λ reason. reason ≡ refusal.Words fault)
@@ -72,29 +85,44 @@ AnsweredAlone (Ok Help) Heard before after answer =
 AnsweredAlone (Ok (Sample size)) Heard before after answer =
     IfDone answer (λ status. (status ≡ 0) × (Heard → PutsSample size before after))
     × IfRefused answer (λ _. ⊥)
-AnsweredAlone (Ok (Compact keep)) Heard before after answer =
-    IfDone answer (λ _. ⊥) × IfRefused answer (λ reason. reason ≡ refusal.NotBuilt COMPACT_FORM)
+AnsweredAlone (Ok (Compact keep)) Heard before after answer = ⊤
 AnsweredAlone (Ok (Prune targets docker)) Heard before after answer = ⊤
 AnsweredAlone (Ok (Run order)) Heard before after answer = ⊤
 
--- only orders to run use the store
+-- only orders to run and to compact use the stores
 abbrev pub KeepsStore : {S : Type 0} → Result Order WordsErr → S → S → Type 0
 KeepsStore (Ok (Run order)) old new = ⊤
+KeepsStore (Ok (Compact keep)) old new = ⊤
 KeepsStore (Ok (Prune targets docker)) old new = new ≡ old
 KeepsStore (Ok (Sample size)) old new = new ≡ old
-KeepsStore (Ok (Compact keep)) old new = new ≡ old
 KeepsStore (Ok Help) old new = new ≡ old
 KeepsStore (Err fault) old new = new ≡ old
 
+-- ---- what is refused
+
+-- What a refusal leaves of both stores: they were at most opened again; and where the current one
+-- could not be compacted, it has its pairs.
+abbrev pub RefusedStores : {S P : Type 0} → Ghosts S → Ghosts P → Result Order WordsErr → S → S
+    → P → P → Refusal → Type 0
+RefusedStores G H (Ok (Compact keep)) old new spare then reason =
+    LeavesRefused G H old new spare then reason
+RefusedStores G H (Ok (Run order)) old new spare then reason = AreReread G H old new spare then
+RefusedStores G H (Ok (Prune targets docker)) old new spare then reason =
+    AreReread G H old new spare then
+RefusedStores G H (Ok (Sample size)) old new spare then reason = AreReread G H old new spare then
+RefusedStores G H (Ok Help) old new spare then reason = AreReread G H old new spare then
+RefusedStores G H (Err fault) old new spare then reason = AreReread G H old new spare then
+
 -- ---- whatever is answered
 
--- What a refusal leaves of the files: all of them as they were; and, where the tree tells its files,
--- an order to prune that is refused for a file that is too large leaves those in front of it.
+-- What a refusal leaves of the files: all of them as they were; and, where the tree tells its
+-- files, an order to prune that is refused for a file that is too large leaves those in front of
+-- it.
 abbrev pub LeavesAsRefused : Type 0 → Result Order WordsErr → FileMap → FileMap → Refusal → Type 0
+LeavesAsRefused tells (Ok (Prune targets docker)) old new reason =
+    tells → prunes.LeavesRefused docker targets old new reason
 LeavesAsRefused tells (Err fault) old new reason = new ≡ old
 LeavesAsRefused tells (Ok Help) old new reason = new ≡ old
-LeavesAsRefused tells (Ok (Prune targets docker)) old new reason =
-    tells → LeavesRefused docker targets old new reason
 LeavesAsRefused tells (Ok (Sample size)) old new reason = new ≡ old
 LeavesAsRefused tells (Ok (Compact keep)) old new reason = new ≡ old
 LeavesAsRefused tells (Ok (Run order)) old new reason = new ≡ old

@@ -7,7 +7,7 @@
 //! run                      turbo: words: NoTask                                  1
 //! prune web                 - Added ui, and a line for each package that stays   0
 //! sample 3                 what four runs of three made packages started         0
-//! compact --keep=2         turbo: not built: form 16                             1
+//! compact --keep=2         kept 2 of 4                                           0
 //! ```
 //!
 //! No words at all stand for `help`. Words count from 0. The status of a run is the greatest of
@@ -18,20 +18,19 @@
 //! of starting commands its text is tried once.
 //!
 //! `specs/` says what words ask for and why they are refused (`Asking`), what a call leaves that
-//! came to its end (`Outcomes`) or was stopped (`Stops`), and what a crash leaves of the store
+//! came to its end (`Outcomes`) or was stopped (`Stops`), and what a crash leaves of the stores
 //! meanwhile (`Images`). `answers` says what answers say of the devices, `run_orders`,
-//! `prune_orders` and `sample` what becomes of an order to run, to prune and to sample.
+//! `prune_orders`, `compact_orders` and `sample` what becomes of an order to run, to prune, to
+//! compact and to sample.
 #![tactic(auto)]
 
 mod help;
 mod laws;
 mod sampling;
 mod top;
-mod unbuilt;
 
 pub use answers::Answer;
 pub use laws::{image_law, truth_law};
 pub use refusals::{Refusal, StoreFile};
 pub use run_orders::{CACHE_FORM, SHARED_FORM, run_order};
 pub use top::turbo;
-pub use unbuilt::COMPACT_FORM;

@@ -11,7 +11,7 @@ use store_dev::{FuseStore, StoreDevice};
 use tree_dev::{MemSink, Sink};
 use turbo_app::{Answer, turbo};
 
-/// What a call is given beside the store.
+/// What a call is given beside the stores.
 #[derive(Drop)]
 pub struct Given {
     pub words: Texts,
@@ -32,6 +32,7 @@ pub struct Seen {
     pub page: String,
     pub files: Files,
     pub store: Bytes,
+    pub spare: Bytes,
 }
 
 fn name_of(answer: &Answer) -> &'static str {
@@ -47,17 +48,18 @@ fn name_of(answer: &Answer) -> &'static str {
 }
 
 // No clause of the call is wanted here: what it did is looked at.
-fn called<W: Spawner, S: StoreDevice, K: Sink>(
+fn called<W: Spawner, S: StoreDevice, P: StoreDevice, K: Sink>(
     alloc: Global,
     words: &[Text],
     environment: &[(Text, Text)],
     world: &mut W,
     store: S,
+    spare: P,
     output: &mut K,
-) -> (Answer, S)
+) -> (Answer, S, P)
     requires { IsIdle (W.runs world.old) }
 {
-    turbo(alloc, words, environment, world, store, output)
+    turbo(alloc, words, environment, world, store, spare, output)
 }
 
 fn starts_of(alloc: Global, world: &MemWorld) -> Result<String> {
@@ -71,7 +73,13 @@ fn starts_of(alloc: Global, world: &MemWorld) -> Result<String> {
     Ok(text)
 }
 
-fn seen_of(alloc: Global, given: &Given, answer: &Answer, store: Bytes) -> Result<Seen> {
+fn seen_of(
+    alloc: Global,
+    given: &Given,
+    answer: &Answer,
+    store: Bytes,
+    spare: Bytes,
+) -> Result<Seen> {
     Ok(Seen {
         answer: name_of(answer),
         status: answer.status(),
@@ -80,15 +88,17 @@ fn seen_of(alloc: Global, given: &Given, answer: &Answer, store: Bytes) -> Resul
         page: read_text(alloc, given.output.written())?,
         files: given.world.files().copy()?,
         store,
+        spare,
     })
 }
 
-// Calls the program over a store. `None` where a command runs already.
-fn answered<S: StoreDevice + Drop>(
+// Calls the program over two stores. `None` where a command runs already.
+fn answered<S: StoreDevice + Drop, P: StoreDevice + Drop>(
     alloc: Global,
     given: &mut Given,
     store: S,
-) -> Option<(Answer, S)> {
+    spare: P,
+) -> Option<(Answer, S, P)> {
     if !given.world.is_idle() {
         return None;
     }
@@ -98,11 +108,12 @@ fn answered<S: StoreDevice + Drop>(
         given.environment.as_slice(),
         &mut given.world,
         store,
+        spare,
         &mut given.output,
     ))
 }
 
-// What is left of the store: its bytes, or what such a crash leaves of them.
+// What is left of a store: its bytes, or what such a crash leaves of them.
 fn left_of(alloc: Global, store: &FuseStore, crash: Option<(u8, u64)>) -> Result<Bytes> {
     let Some((fill, keep)) = crash else {
         return Ok(Bytes::read(alloc, store.inner().bytes())?);
@@ -111,33 +122,37 @@ fn left_of(alloc: Global, store: &FuseStore, crash: Option<(u8, u64)>) -> Result
     Ok(Bytes::read(alloc, crashed.bytes())?)
 }
 
-fn seen_with(
-    alloc: Global,
-    given: &Given,
-    answer: &Answer,
-    store: &FuseStore,
-    crash: Option<(u8, u64)>,
-) -> Result<Seen> {
-    let left = left_of(alloc, store, crash)?;
-    seen_of(alloc, given, answer, left)
+/// A store for a call. Where a crash is told, its fill and how many bytes it keeps, what is seen of the store is what
+/// such a crash leaves.
+#[derive(Drop)]
+pub struct Cuttable {
+    pub store: FuseStore,
+    pub crash: Option<(u8, u64)>,
 }
 
-/// Calls the program. Where a crash is told, its fill and how many bytes it keeps, what is seen of the store is what
-/// such a crash leaves.
-pub fn call(
-    alloc: Global,
-    given: Given,
-    store: FuseStore,
-    crash: Option<(u8, u64)>,
-) -> Result<Seen> {
+/// Calls the program.
+pub fn call(alloc: Global, given: Given, store: Cuttable, spare: Cuttable) -> Result<Seen> {
     let mut given = given;
-    let (answer, store) = answered(alloc, &mut given, store).context("a command runs")?;
-    seen_with(alloc, &given, &answer, &store, crash)
+    let (answer, left, spare_left) = answered(alloc, &mut given, store.store, spare.store).context(
+        "a command runs",
+    )?;
+    let left = left_of(alloc, &left, store.crash)?;
+    let spare_left = left_of(alloc, &spare_left, spare.crash)?;
+    seen_of(alloc, &given, &answer, left, spare_left)
 }
 
 /// Calls the program over a store that is nearly full, of which nothing is seen.
-pub fn call_full(alloc: Global, given: Given, store: Vast) -> Result<Seen> {
+pub fn call_full(alloc: Global, given: Given, store: Vast, spare: Cuttable) -> Result<Seen> {
     let mut given = given;
-    let (answer, _store) = answered(alloc, &mut given, store).context("a command runs")?;
-    seen_of(alloc, &given, &answer, Bytes::from_vec(Vec::new(alloc)))
+    let (answer, _store, spare_left) = answered(alloc, &mut given, store, spare.store).context(
+        "a command runs",
+    )?;
+    let spare_left = left_of(alloc, &spare_left, spare.crash)?;
+    seen_of(
+        alloc,
+        &given,
+        &answer,
+        Bytes::from_vec(Vec::new(alloc)),
+        spare_left,
+    )
 }

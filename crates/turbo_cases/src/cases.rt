@@ -9,11 +9,12 @@ use crate::tally::Tally;
 use anyhow::{Context, Result};
 use std::alloc::Global;
 
-/// A run of a case: the call that fails in its first step, and what is wanted in the place of what the steps say.
+/// A run of a case: the call that fails in one of its steps, and what is wanted in the place of what the steps say.
 #[derive(Clone, Copy, Drop)]
 struct Run<'a> {
     group: &'a Group,
     case: &'a Case,
+    at: usize,
     fault: Option<Fault>,
     outcome: Option<&'a Vec<Wanted>>,
 }
@@ -56,7 +57,7 @@ fn differences_of(alloc: Global, run: &Run) -> Result<Vec<String>> {
     let mut scene = scene_of(alloc, run.group, run.case)?;
     let mut first = None;
     for (number, step) in run.case.steps.iter().enumerate() {
-        let fault = if number == 0 { run.fault } else { None };
+        let fault = if number == run.at { run.fault } else { None };
         let seen = run_step(alloc, run.group, run.case, step, fault, &mut scene)?;
         let mut differences = Differences::new(alloc, number);
         if let Some(wanted) = wanted_of(run, number, step) {
@@ -74,6 +75,7 @@ fn differences_of(alloc: Global, run: &Run) -> Result<Vec<String>> {
         }
         scene.files = seen.files.copy()?;
         scene.store = seen.store.copy()?;
+        scene.spare = seen.spare.copy()?;
         first = first.or(Some(seen));
     }
     Ok(Vec::new(alloc))
@@ -130,6 +132,7 @@ fn sweep<'a>(
         let run = Run {
             group,
             case,
+            at: sweep.step,
             fault: Some(fault),
             outcome: Some(outcome),
         };
@@ -145,6 +148,7 @@ fn run_case<'a>(alloc: Global, group: &'a Group, case: &'a Case, tally: &mut Tal
     let run = Run {
         group,
         case,
+        at: 0,
         fault: None,
         outcome: None,
     };

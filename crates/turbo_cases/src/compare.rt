@@ -128,6 +128,13 @@ fn compare_store(
             pairs_in(seen.store.as_slice()),
         )?;
     }
+    if let Some(pairs) = wanted.spare_pairs {
+        differences.compare_number(
+            "results in the spare store",
+            pairs,
+            pairs_in(seen.spare.as_slice()),
+        )?;
+    }
     if let Some(store) = &wanted.store {
         let came = text_of(alloc, seen.store.as_slice())?;
         differences.compare("the store", store.as_str(), came.as_str())?;

@@ -12,27 +12,53 @@ pub struct Fault {
     pub keep: u64,
 }
 
-/// The numbers of the calls that fail, how many calls of the store pass, and what a crash leaves, where there is one.
+/// The numbers of the calls that fail, how many calls of a store pass, and what a crash leaves, where there is one.
 #[derive(Drop)]
 pub struct Faults {
     pub world: Vec<u64>,
-    pub store: Vec<u64>,
+    pub store: StoreFaults,
+    pub spare: StoreFaults,
     pub output: Vec<u64>,
+}
+
+/// The same of one store. A crash leaves its fill, and so many bytes past the end.
+#[derive(Drop)]
+pub struct StoreFaults {
+    pub fails: Vec<u64>,
     pub pass: u64,
     pub crash: Option<(u8, u64)>,
+}
+
+fn no_store_faults(alloc: Global) -> StoreFaults {
+    StoreFaults {
+        fails: Vec::new(alloc),
+        pass: u64::MAX,
+        crash: None,
+    }
+}
+
+fn cut(faults: &mut StoreFaults, fault: Fault) {
+    faults.pass = fault.number;
+    faults.crash = Some((fault.fill, fault.keep));
 }
 
 fn told(alloc: Global, fails: Option<&Fails>) -> Result<Faults> {
     let mut faults = Faults {
         world: Vec::new(alloc),
-        store: Vec::new(alloc),
+        store: no_store_faults(alloc),
+        spare: no_store_faults(alloc),
         output: Vec::new(alloc),
-        pass: u64::MAX,
-        crash: None,
     };
     if let Some(fails) = fails {
         faults.world.extend_from_slice(fails.world.as_slice())?;
-        faults.store.extend_from_slice(fails.store.as_slice())?;
+        faults
+            .store
+            .fails
+            .extend_from_slice(fails.store.as_slice())?;
+        faults
+            .spare
+            .fails
+            .extend_from_slice(fails.spare.as_slice())?;
         faults.output.extend_from_slice(fails.output.as_slice())?;
     }
     Ok(faults)
@@ -46,12 +72,11 @@ pub fn faults_of(alloc: Global, step: &Step, fault: Option<Fault>) -> Result<Fau
     };
     match fault.device {
         Device::World => faults.world.push(fault.number)?,
-        Device::Store => faults.store.push(fault.number)?,
+        Device::Store => faults.store.fails.push(fault.number)?,
+        Device::Spare => faults.spare.fails.push(fault.number)?,
         Device::Output => faults.output.push(fault.number)?,
-        Device::Cut => {
-            faults.pass = fault.number;
-            faults.crash = Some((fault.fill, fault.keep));
-        }
+        Device::Cut => cut(&mut faults.store, fault),
+        Device::CutSpare => cut(&mut faults.spare, fault),
     }
     Ok(faults)
 }

@@ -21,7 +21,7 @@ pub struct Group {
     pub cases: Vec<Case>,
 }
 
-/// Steps over one repository and one store. Its files and commands come before those of the group.
+/// Steps over one repository and its stores. Its files and commands come before those of the group.
 #[derive(Drop, Deserialize)]
 #[serde(deny_unknown_fields)]
 pub struct Case {
@@ -77,7 +77,7 @@ pub struct Does {
 #[derive(Drop, Deserialize)]
 #[serde(deny_unknown_fields)]
 pub struct Step {
-    /// Whether it goes over the case's own files and an empty store, as the first step does.
+    /// Whether it goes over the case's own files and empty stores, as the first step does.
     #[serde(default)]
     pub fresh: bool,
     /// A folder of which the files become the repository, from this step on.
@@ -85,8 +85,9 @@ pub struct Step {
     /// Changes to the files before the call.
     #[serde(default)]
     pub write: Contents,
-    /// The bytes of the store before the call, a character each.
+    /// The bytes of the store before the call, a character each, and those of the spare one.
     pub store: Option<String>,
+    pub spare: Option<String>,
     /// In the place of the store one with room for so many bytes more, of which nothing is seen behind the call.
     pub room: Option<u32>,
     /// Bytes of the store that are changed before the call.
@@ -122,6 +123,8 @@ pub struct Fails {
     #[serde(default)]
     pub store: Vec<u64>,
     #[serde(default)]
+    pub spare: Vec<u64>,
+    #[serde(default)]
     pub output: Vec<u64>,
 }
 
@@ -140,8 +143,9 @@ pub struct Wanted {
     pub files: BTreeMap<String, Option<String>>,
     /// How many bytes the store has.
     pub stored: Option<usize>,
-    /// How many results the store has.
+    /// How many results the store has, and how many the spare one.
     pub pairs: Option<usize>,
+    pub spare_pairs: Option<usize>,
     /// The bytes of the store, a character each.
     pub store: Option<String>,
     /// Whether the page and the length of the store are those of the first step.
@@ -151,20 +155,26 @@ pub struct Wanted {
 
 /// A device of which one call fails after another.
 #[derive(Clone, Copy, Drop, Deserialize)]
-#[serde(rename_all = "lowercase")]
+#[serde(rename_all = "snake_case")]
 pub enum Device {
     World,
     Store,
+    Spare,
     Output,
     /// The store is cut off before the call, and crashed behind the step.
     Cut,
+    /// The same of the spare store.
+    CutSpare,
 }
 
-/// Has the case run once for each outcome: in the run of number k the first step's call of number k fails.
+/// Has the case run once for each outcome: in the run of number k the call of number k fails in one of the steps.
 #[derive(Drop, Deserialize)]
 #[serde(deny_unknown_fields)]
 pub struct Sweep {
     pub device: Device,
+    /// The number of the step in which it fails.
+    #[serde(default)]
+    pub step: usize,
     /// What a crash leaves: this byte in the place of all that was written last, and so many bytes of it past the end.
     #[serde(default)]
     pub fill: u8,

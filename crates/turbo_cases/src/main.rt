@@ -23,7 +23,7 @@ use std::{env, fs};
 use tally::Tally;
 
 /// The groups, each in a file of its name.
-const GROUPS: [&str; 17] = [
+const GROUPS: [&str; 18] = [
     "one_package",
     "monorepo",
     "graphs",
@@ -38,6 +38,7 @@ const GROUPS: [&str; 17] = [
     "environment",
     "pruning",
     "sample",
+    "compaction",
     "refusals",
     "sizes",
     "limits",

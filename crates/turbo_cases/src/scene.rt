@@ -1,4 +1,4 @@
-// A repository and a store, and changes to them.
+// A repository and its stores, and changes to them.
 use crate::bytes::bytes_of;
 use crate::format::{Contents, Patch};
 use anyhow::{Context, Result};
@@ -7,11 +7,12 @@ use serde_json::Value;
 use std::alloc::Global;
 use tree_dev::bytes_at;
 
-/// The files of a repository, and the bytes of the store beside it.
+/// The files of a repository, and the bytes of the stores beside it.
 #[derive(Drop)]
 pub struct Scene {
     pub files: Files,
     pub store: Bytes,
+    pub spare: Bytes,
 }
 
 fn content_of(alloc: Global, content: &Value) -> Result<Bytes> {
@@ -66,11 +67,12 @@ pub fn are_same(some: &Files, others: &Files) -> bool {
 }
 
 impl Scene {
-    /// No files, and an empty store.
+    /// No files, and empty stores.
     pub fn new(alloc: Global) -> Scene {
         Scene {
             files: Files::new(alloc),
             store: Bytes::from_vec(Vec::new(alloc)),
+            spare: Bytes::from_vec(Vec::new(alloc)),
         }
     }
 
@@ -100,6 +102,11 @@ impl Scene {
 
     pub fn set_store(&mut self, alloc: Global, store: &str) -> Result<()> {
         self.store = Bytes::from_vec(bytes_of(alloc, store)?);
+        Ok(())
+    }
+
+    pub fn set_spare(&mut self, alloc: Global, spare: &str) -> Result<()> {
+        self.spare = Bytes::from_vec(bytes_of(alloc, spare)?);
         Ok(())
     }
 

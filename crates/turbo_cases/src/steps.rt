@@ -1,13 +1,13 @@
 // One step of a case: what it is given, and the call.
-use crate::called::{Given, Seen, call, call_full};
+use crate::called::{Cuttable, Given, Seen, call, call_full};
 use crate::commands::book_of;
-use crate::faults::{Fault, Faults, faults_of};
+use crate::faults::{Fault, StoreFaults, faults_of};
 use crate::format::{Case, Group, Step};
 use crate::many::push_many;
 use crate::scene::Scene;
 use anyhow::{Context, Result};
 use case_files::Vast;
-use rel_path::{Pairs, Text, Texts};
+use rel_path::{Bytes, Pairs, Text, Texts};
 use spawn_dev::MemWorld;
 use std::alloc::Global;
 use store_dev::{FuseStore, MemStore};
@@ -62,6 +62,9 @@ fn prepare(
     if let Some(store) = &step.store {
         scene.set_store(alloc, store.as_str())?;
     }
+    if let Some(spare) = &step.spare {
+        scene.set_spare(alloc, spare.as_str())?;
+    }
     scene.write(alloc, &step.write)?;
     scene.patch(alloc, step.patch.as_slice())
 }
@@ -85,6 +88,14 @@ fn given_to(
     })
 }
 
+fn cuttable(alloc: Global, bytes: &Bytes, faults: StoreFaults) -> Result<Cuttable> {
+    let device = MemStore::new(alloc, bytes.copy()?, faults.fails);
+    Ok(Cuttable {
+        store: FuseStore::new(device, faults.pass),
+        crash: faults.crash,
+    })
+}
+
 /// Makes the changes and the call. The scene has its files as they were before the call.
 pub fn run_step(
     alloc: Global,
@@ -95,17 +106,12 @@ pub fn run_step(
     scene: &mut Scene,
 ) -> Result<Seen> {
     prepare(alloc, group, case, step, scene)?;
-    let Faults {
-        world,
-        store,
-        output,
-        pass,
-        crash,
-    } = faults_of(alloc, step, fault)?;
-    let given = given_to(alloc, group, case, step, scene, world, output)?;
+    let faults = faults_of(alloc, step, fault)?;
+    let given = given_to(alloc, group, case, step, scene, faults.world, faults.output)?;
+    let spare = cuttable(alloc, &scene.spare, faults.spare)?;
     if let Some(room) = step.room {
-        return call_full(alloc, given, Vast::with_room(alloc, room.into())?);
+        return call_full(alloc, given, Vast::with_room(alloc, room.into())?, spare);
     }
-    let device = MemStore::new(alloc, scene.store.copy()?, store);
-    call(alloc, given, FuseStore::new(device, pass), crash)
+    let store = cuttable(alloc, &scene.store, faults.store)?;
+    call(alloc, given, store, spare)
 }

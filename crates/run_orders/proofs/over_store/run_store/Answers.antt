@@ -13,7 +13,7 @@ use Rattle.spawn_dev.specs.declared.command.Step.{Step}
 use Rattle.task_devices.specs.Keeping.{IsFurther}
 use Rattle.store_dev.specs.Device.{LeavesOnly}
 use Rattle.artifact_store.specs.Store.{device_of, state_of}
-use Rattle.artifact_store.specs.Pairs.{stands_for, told_as}
+use Rattle.artifact_store.specs.Pairs.{told_as}
 use Rattle.answers.specs.Answers.{IfDone}
 use Rattle.run_orders.specs.Images.{IsTrusted, IsTrustedRun, IsLeftByRun}
 use Rattle.answers.specs.Moments.{Moment, moment_of}
@@ -22,12 +22,13 @@ use Rattle.answers.specs.Stops.{IfFault}
 use Rattle.run_orders.specs.Stops.{StopsRun}
 use Rattle.answers.specs.Facts.{if_fault, within}
 use Rattle.run_orders.proofs.Finished.{done_as, dry_done, live_done}
-use Rattle.run_orders.proofs.Left.{handed, further_told, left_told}
+use Rattle.run_orders.proofs.Left.{handed}
+use Rattle.store_answers.specs.Stores.{held_by}
 use Rattle.run_orders.proofs.Ready.{is_ready}
 use Rattle.run_orders.proofs.over_store.run_store.Goals as goal
 
 pub returns-clause-stopped : goal.returns-clause-stopped
-returns-clause-stopped g c told store heard stored = by c.args.is_dry refl
+returns-clause-stopped g c told store heard held kept = by c.args.is_dry refl
   where
     plan : Plan
     plan = c.args.plan.now
@@ -39,10 +40,10 @@ returns-clause-stopped g c told store heard stored = by c.args.is_dry refl
     book = g.W.Spawner.effect (g.W.Spawner.runs c.args.world.now).book
 
     old : Moment
-    old = moment_of (g.W.Tree.state c.args.world.now) (g.W.Spawner.runs c.args.world.now) stored (g.K.Sink.written c.args.out.now)
+    old = moment_of (g.W.Tree.state c.args.world.now) (g.W.Spawner.runs c.args.world.now) held (g.K.Sink.written c.args.out.now)
 
     new : Moment
-    new = moment_of (g.W.Tree.state c.run_over-answer.new.world) (g.W.Spawner.runs c.run_over-answer.new.world) (g.S.StoreDevice.content c.device.result) (g.K.Sink.written c.run_over-answer.new.out)
+    new = moment_of (g.W.Tree.state c.run_over-answer.new.world) (g.W.Spawner.runs c.run_over-answer.new.world) kept (g.K.Sink.written c.run_over-answer.new.out)
 
     opening : Opening
     opening = opening_of g.W.Spawner.effect (g.W.Spawner.runs c.args.world.now) (g.W.Tree.state c.args.world.now) (state_of c.args.store)
@@ -61,7 +62,7 @@ returns-clause-stopped g c told store heard stored = by c.args.is_dry refl
         (λ good. if_fault c.run_over-answer.result _ _ (λ cause line stops. ((state_of c.run_over-answer.new.cache).room, (state_of c.run_over-answer.new.cache).pairs, stops)) (live (ready storable fits good)))))
 
 pub returns-clause-ran : goal.returns-clause-ran
-returns-clause-ran g c told store stored opened = by c.args.is_dry refl
+returns-clause-ran g c told store held opened = by c.args.is_dry refl
   where
     plan : Plan
     plan = c.args.plan.now
@@ -73,10 +74,10 @@ returns-clause-ran g c told store stored opened = by c.args.is_dry refl
     book = g.W.Spawner.effect (g.W.Spawner.runs c.args.world.now).book
 
     old : Moment
-    old = moment_of (g.W.Tree.state c.args.world.now) (g.W.Spawner.runs c.args.world.now) stored (g.K.Sink.written c.args.out.now)
+    old = moment_of (g.W.Tree.state c.args.world.now) (g.W.Spawner.runs c.args.world.now) held (g.K.Sink.written c.args.out.now)
 
     new : Moment
-    new = moment_of (g.W.Tree.state c.run_over-answer.new.world) (g.W.Spawner.runs c.run_over-answer.new.world) (g.S.StoreDevice.content c.device.result) (g.K.Sink.written c.run_over-answer.new.out)
+    new = moment_of (g.W.Tree.state c.run_over-answer.new.world) (g.W.Spawner.runs c.run_over-answer.new.world) (held_by (g.S.StoreDevice.content c.device.result)) (g.K.Sink.written c.run_over-answer.new.out)
 
     opening : Opening
     opening = opening_of g.W.Spawner.effect (g.W.Spawner.runs c.args.world.now) (g.W.Tree.state c.args.world.now) (state_of c.args.store)
@@ -112,8 +113,8 @@ pub returns-clause-sound : goal.returns-clause-sound
 returns-clause-sound g c store =
     let base = (state_of c.args.store).base in
     let pairs = (state_of c.args.store).pairs in
-    handed c.args.store c.run_over-answer.new.cache c.device.result c.device.ensures.device (λ image. IsFurther pairs (told_as base image)) (λ image. IsFurther pairs (stands_for image))
-    (c.run_over-answer.ensures.images store) (further_told base pairs)
+    handed c.args.store c.run_over-answer.new.cache c.device.result c.device.ensures.device (λ image. IsFurther pairs (told_as base image)) _
+    (c.run_over-answer.ensures.images store) (λ image further. further)
 
 pub returns-clause-lasts : goal.returns-clause-lasts
 returns-clause-lasts g c store = done_as _ _ c.run_over-answer.result (λ status whole. c.device.ensures.lasts store whole) c.run_over-answer.ensures.whole
@@ -146,11 +147,11 @@ returns-clause-left g c told store trusted = by c.args.is_dry refl trusted
     ready trust = is_ready plan opening c.requires.plan (g.met.W.Spawner.well_behaved (g.W.Spawner.runs c.args.world.now).book) (c.requires.inputs told) trust.storable trust.fits trust.good
 
     by : (dry : Bool) → c.args.is_dry ≡ dry → IsTrustedRun dry book plan pairs
-        → LeavesOnly g.S.StoreDevice.moment g.S.StoreDevice.images_since (device_of c.args.store) c.device.result (λ image. IsLeftByRun dry plan opening steps (stands_for image))
+        → LeavesOnly g.S.StoreDevice.moment g.S.StoreDevice.images_since (device_of c.args.store) c.device.result (λ image. IsLeftByRun dry plan opening steps (told_as base image))
     by true is trust =
         handed c.args.store c.run_over-answer.new.cache c.device.result c.device.ensures.device (λ image. told_as base image ≡ Some pairs) _
-        (rw is at (c.run_over-answer.ensures.dry_left store)) (left_told true plan opening steps base)
+        (rw is at (c.run_over-answer.ensures.dry_left store)) (λ image said. said)
     by false is trust =
         let live = rw is at (c.run_over-answer.ensures.left told store) in
         handed c.args.store c.run_over-answer.new.cache c.device.result c.device.ensures.device (λ image. HasSafePairs plan opening room steps (told_as base image)) _
-        (live (ready trust)) (λ image safe. left_told false plan opening steps base image (room, safe))
+        (live (ready trust)) (λ image safe. (room, safe))

@@ -3,10 +3,11 @@ use Rattle.spawn_dev.specs.Spawn.{Runs}
 use Rattle.spawn_dev.specs.declared.book.Rule.{Rule}
 use Rattle.refusals.specs.Refusals.{line_of, refusal_text}
 use Rattle.answers.specs.Answers.{IfRefused}
+use Rattle.answers.specs.Facts.{if_refused}
 use Rattle.answers.specs.declared.answer.Answer.{Answer}
 use Rattle.answers.specs.declared.answer.Answer.TheVariants.{Done, Refused, TreeFault, StoreFault}
 use Rattle.answers.specs.declared.answer.Answer.TheVariants.{StartFault, SinkFault, OutOfMemory}
-use Rattle.sample.specs.Runs.{LeavesAlone}
+use Rattle.sample.specs.Runs.{IsKept, LeavesAlone}
 use Rattle.sample.specs.States.{State}
 use Rattle.sample.proofs.runs.run_once.Goals as goal
 
@@ -14,17 +15,18 @@ use Rattle.sample.proofs.runs.run_once.Goals as goal
 left_alone : (answer : Answer) (old new : State)
     → IfRefused answer (λ reason. new.files ≡ old.files)
     → IfRefused answer (λ reason. new.steps ≡ old.steps)
-    → IfRefused answer (λ reason. new.stored ≡ old.stored)
+    → IfRefused answer (λ reason. IsKept old.stores.store new.stores.store)
+    → IfRefused answer (λ reason. IsKept old.stores.spare new.stores.spare)
     → IfRefused answer (λ reason. new.printed ≡ old.printed ++ line_of (refusal_text reason))
     → IfRefused answer (LeavesAlone old new)
-left_alone (Refused reason) old new files steps stored printed =
-    record { files = files; steps = steps; stored = stored; printed = printed }
-left_alone (Done status) old new files steps stored printed = tt
-left_alone TreeFault old new files steps stored printed = tt
-left_alone StoreFault old new files steps stored printed = tt
-left_alone StartFault old new files steps stored printed = tt
-left_alone SinkFault old new files steps stored printed = tt
-left_alone OutOfMemory old new files steps stored printed = tt
+left_alone (Refused reason) old new files steps store spare printed =
+    record { files = files; steps = steps; store = store; spare = spare; printed = printed }
+left_alone (Done status) old new files steps store spare printed = tt
+left_alone TreeFault old new files steps store spare printed = tt
+left_alone StoreFault old new files steps store spare printed = tt
+left_alone StartFault old new files steps store spare printed = tt
+left_alone SinkFault old new files steps store spare printed = tt
+left_alone OutOfMemory old new files steps store spare printed = tt
 
 -- where what ran is the same, the steps are
 same_steps : (answer : Answer) (old new : Runs (List Rule))
@@ -43,4 +45,6 @@ returns-clause-kept c before after =
     let asked = c.run_order.ensures in
     let answer = c.run_order.result.0 in
     left_alone answer _ _ asked.untouched
-    (same_steps answer _ _ asked.unstarted) (asked.same tt) (asked.line tt)
+    (same_steps answer _ _ asked.unstarted)
+    (if_refused answer _ _ (λ reason left. left.same) (asked.reread tt))
+    (if_refused answer _ _ (λ reason left. left.same) (asked.spare_reread tt)) (asked.line tt)

@@ -4,5 +4,6 @@ use Rattle.turbo_app.proofs.Truth.{truth_by_words}
 use Rattle.turbo_app.proofs.laws.truth_law.Goals as goal
 
 pub returns : goal.returns
-returns g c store words book env old steps truth image left =
-    truth_by_words book (g.S.StoreDevice.images store) truth env old steps image (order_of words) left
+returns g c store spare words book env old steps truth held f s left =
+    truth_by_words book (g.S.StoreDevice.images store) (g.P.StoreDevice.images spare) truth env old held steps f s
+    (order_of words) left
