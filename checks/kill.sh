@@ -92,13 +92,13 @@ kill_one() {
     shift 2
     setsid "$program" "$@" >"$work/out" 2>"$work/err" &
     local child=$!
+    disown "$child"
     sleep "$(printf '0.%03d' $((RANDOM % most)))"
     if kill -9 "$child" 2>/dev/null; then
         eval "${kind}_killed=\$((${kind}_killed + 1))"
     else
         eval "${kind}_ended=\$((${kind}_ended + 1))"
     fi
-    wait "$child" 2>/dev/null
     settle "$child"
 }
 

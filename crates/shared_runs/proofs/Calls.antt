@@ -84,6 +84,7 @@ module _ {H D : Type 0} {G : Ghosts H D} {K : DeviceGhosts D} (old : SharedStore
       seen = old.seen;
       next = old.next;
       idle = turn.held;
+      undamaged = λ told. turn.undamaged told ∙ old.undamaged told;
       below = old.below;
       sees = sees_passed;
       kept = kept_passed;

@@ -116,12 +116,13 @@ module _ {H D : Type 0} (G : Ghosts H D) (K : DeviceGhosts D) (old mid : Turns H
     (grows : ends (G.coming old.shared) ≤ ends (G.coming mid.shared)) where
   -- a turn that was not taken
   pub passes_err : (G.turn mid.shared).held ≡ false → mid.mark ≡ None → mid.room ≡ old.room
-      → mid.reads ≡ old.reads → PassesTurn G K old mid
-  passes_err held none room reads = record {
+      → mid.reads ≡ old.reads → (K.tells → mid.damaged ≡ old.damaged) → PassesTurn G K old mid
+  passes_err held none room reads undamaged = record {
     held = held;
     began = began;
     first = first;
     ended = inl (ap is_some none);
+    undamaged = undamaged;
     grows = grows;
     known = λ m is told. absurd (none_some mid.mark m none is);
     free = λ told free. omega (
@@ -152,8 +153,9 @@ module _ {H D : Type 0} (G : Ghosts H D) (K : DeviceGhosts D) (old mid : Turns H
       → G.images_since new.shared m c)
       → ends (G.coming mid.shared) ≤ ends (G.coming new.shared)
       → mid.room ≡ min old.room (store.state_of s).room → new.room ≡ mid.room
-      → old.reads ≤ new.reads → PassesTurn G K old new
-  passes_reads new s device begins reads later counts sound held same given known goes back m r k n =
+      → old.reads ≤ new.reads → (K.tells → new.damaged ≡ old.damaged) → PassesTurn G K old new
+  passes_reads new s device begins reads later counts sound held same given known goes back m r k n
+      undamaged =
       let then : K.tells → LeavesFirst G old.shared new.shared =
       λ told. reads_first G K old.shared mid.shared s device begins reads later counts new.shared
       told (sound told)
@@ -167,6 +169,7 @@ module _ {H D : Type 0} (G : Ghosts H D) (K : DeviceGhosts D) (old mid : Turns H
         began = same ∙ began;
         first = then;
         ended = inr read;
+        undamaged = undamaged;
         grows = omega (arith, grows, m);
         known = known;
         free = λ told free.

@@ -164,7 +164,7 @@ module _ {H D : Type 0} {G : Ghosts H D} {K : DeviceGhosts D} (old new : SharedS
         ]
 
     pub reads_view : CacheReads K.tells state_of cost_of stands shows moment_of left_of
-        (λ base image. image) old new
+        (λ base image. image.pairs) old new
     reads_view = record {
       pairs = λ told. view_of_more told (file_of new)
           (holds_first (frames_in old) (coming_in old) (stays told) (file_of new)
@@ -177,16 +177,13 @@ module _ {H D : Type 0} {G : Ghosts H D} {K : DeviceGhosts D} (old new : SharedS
       hits = hits_start old new starts;
       left = λ told. leaves_view old new (λ o. o ≡ Some (view_of old.seen (file_of old)))
           (HoldsFirst (length (frames_in old)) (coming_in old)) (ap is_some was) (starts told)
-          (first told).goes began
+          (first told).goes
           (λ c left. (
             left_in_turn told c left,
             ap (λ (l : List Pair). Some l) (view_of_more told c
                 (holds_first (frames_in old) (coming_in old) (stays told) c
                 ((first told).goes.each c left))),
           ))
-          (λ n le c is. ap (λ (l : List Pair). Some l) (view_of_more told c
-          (let (more, same) = front_long (frames_in old) (frames_in new) (starts told) n le in
-          (more, is ∙ ap (λ (l : List Entry). Ok l) same))))
           (λ n le c is. ap (λ (s : SeenPairs). view_of s c) seen);
       keeps = keeps_start (ap (λ (s : SeenPairs). s.first) seen) starts room grows reads;
     }

@@ -4,7 +4,7 @@ use Rattle.std.proofs.Common.{take, drop, Option, Some, None, Ok, refl, sym, ◌
 use Rattle.std.proofs.Common.{append_assoc, length-append, length-take, take-append-drop}
 use Rattle.std.specs.Prelude.{is_some}
 use Rattle.std.proofs.lemmas.Bool.{cases_lt}
-use Rattle.std.proofs.lemmas.List.{append-nil, drop_at, take_all, take_at, take-take}
+use Rattle.std.proofs.lemmas.List.{append-nil, drop_at, take_at, take-take}
 use Rattle.std.proofs.lemmas.List.{take-append-le}
 use Rattle.rel_path.specs.Limits.{store_limit}
 use Rattle.store_dev.specs.declared.device.StoreDevice.{Ghosts as DeviceGhosts}
@@ -114,6 +114,7 @@ module _ {H D : Type 0} {G : Ghosts H D} {K : DeviceGhosts D} (old : SharedStore
     seen = old.seen;
     next = old.next;
     idle = turn.held;
+    undamaged = λ told. turn.undamaged told ∙ old.undamaged told;
     below = old.below;
     sees = λ told. sees_put told turns.room (omega arith);
     kept = kept_put;
@@ -138,6 +139,7 @@ module _ {H D : Type 0} {G : Ghosts H D} {K : DeviceGhosts D} (old : SharedStore
       seen = seen;
       next = next;
       idle = turn.held;
+      undamaged = λ told. turn.undamaged told ∙ old.undamaged told;
       below = below;
       sees = sees_own;
       kept = kept_own;
@@ -235,15 +237,13 @@ module _ {H D : Type 0} {G : Ghosts H D} {K : DeviceGhosts D} (old : SharedStore
   module _ (told : K.tells) (more : List Pair)
       (ended : (is_some turns.mark ≡ false) ⊎ (reading file ≡ Ok all)) where
     pub left_same : (new : SharedStore H D G K) → new.turns ≡ turns → new.seen ≡ old.seen
-        → Leaves moment_of left_of old new (Q more)
+        → Leaves moment_of left_of old new (λ i. Q more i.pairs)
     left_same new shared seen =
         leaves_view old new (Q more) (HoldsFirstOrPut least (coming_in old) news) (ap is_some was)
         (subst (λ (t : Turns H). StartWith (frames_in old) (frames_of (G.content t.shared)))
         (sym shared) (put_starts told))
         (subst (λ (t : Turns H). GoesOn G.moment G.images_since old.turns.shared t.shared
         (HoldsFirstOrPut least (coming_in old) news)) (sym shared) (turn.goes told))
-        (subst (λ (t : Turns H). (G.turn t.shared).began ≡ G.moment old.turns.shared)
-        (sym shared) turn.began)
         (λ c left.
         let here = subst (λ (t : Turns H). G.images_since t.shared (G.moment old.turns.shared) c)
         shared left in (
@@ -254,12 +254,6 @@ module _ {H D : Type 0} {G : Ghosts H D} {K : DeviceGhosts D} (old : SharedStore
               ∙ old_view told c (holds_first (frames_in old) all (all_start told) c
               (put_first told c ((turn.goes told).each c here)))),
         ))
-        (λ n le c is. none_put more (view_of new.seen c) (ap (λ s. view_of s c) seen
-        ∙ old_view told c
-        (let starts = subst (λ (t : Turns H). StartWith (frames_in old)
-        (frames_of (G.content t.shared))) (sym shared) (put_starts told) in
-        let (x, same) = front_long (frames_in old) (frames_in new) starts n le in
-        (x, is ∙ ap (λ (l : List Entry). Ok l) same))))
         (λ n le c is. ap (λ s. view_of s c) seen)
 
   -- ---- where it sees those that were put
@@ -331,7 +325,7 @@ module _ {H D : Type 0} {G : Ghosts H D} {K : DeviceGhosts D} (old : SharedStore
         ]
 
     pub left_more : new.turns.mark ≡ turns.mark → new.turns.shared ≡ turns.shared
-        → Leaves moment_of left_of old new (Q more)
+        → Leaves moment_of left_of old new (λ i. Q more i.pairs)
     left_more kept same =
         let starts : StartWith (frames_in old) (frames_in new) =
         subst (λ (b : List ℕ). StartWith (frames_in old) (frames_of b)) (sym shared)
@@ -341,13 +335,11 @@ module _ {H D : Type 0} {G : Ghosts H D} {K : DeviceGhosts D} (old : SharedStore
         (ap is_some was) starts
         (subst (λ (x : H). GoesOn G.moment G.images_since old.turns.shared x
         (HoldsFirstOrPut least (coming_in old) news)) (sym same) (turn.goes told))
-        (subst (λ (x : H). (G.turn x).began ≡ G.moment old.turns.shared) (sym same) turn.began)
         (λ c left.
         let here = subst (λ (x : H). G.images_since x (G.moment old.turns.shared) c) same left in (
           inl (front_all c now_all (put_first told c ((turn.goes told).each c here))),
           part_put c (put_first told c ((turn.goes told).each c here)),
         ))
-        (λ n le c is. part_put c (cut n le c (is ∙ ap (λ (l : List Entry). Ok (take n l)) now_all)))
         (λ n le c is. low_view n le c is)
       where
         front_all : (c : List ℕ) → frames_in new ≡ all → HoldsFirst least all c
@@ -359,14 +351,6 @@ module _ {H D : Type 0} {G : Ghosts H D} {K : DeviceGhosts D} (old : SharedStore
           read
               ∙ ap (λ (l : List Entry). Ok (take n l)) (sym is),
         )
-
-        cut : (n : ℕ) → least ≤ n → (c : List ℕ) → reading c ≡ Ok (take n all)
-            → HoldsFirst least all c
-        cut n le c is = elim (cases_lt (length all) n) [
-          | inr inside ↦ (n, le, omega (arith, inside), is)
-          | inl past ↦ first_all least all c (starts_few (frames_in old) all (all_start told))
-              (is ∙ ap (λ (l : List Entry). Ok l) (take_all n all (omega (arith, past))))
-        ]
 
         low_view : (n : ℕ) → n ≤ least → (c : List ℕ) → reading c ≡ Ok (take n (frames_in old))
             → view_of new.seen c ≡ view_of old.seen c
@@ -413,6 +397,7 @@ put_dropped news old turns x = record {
   began = x.began;
   file = x.file;
   goes = x.goes;
+  undamaged = x.undamaged;
   grows = x.grows;
   known = λ m is. absurd (none_apart m is);
   free = x.free;

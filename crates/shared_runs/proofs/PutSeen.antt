@@ -96,11 +96,11 @@ module _ {H D : Type 0} {G : Ghosts H D} {K : DeviceGhosts D} (old : SharedStore
       ∙ done.pairs_are ∙ ap (λ p. pairs_in (coming_in old) ++ chosen news p) done.puts_are
 
   pub left_now : K.tells → Leaves moment_of left_of old store_now
-      (λ o. IsFirstPart (view_of old.seen (file_of old)) (chosen news (stores old news)) o)
+      (λ i. IsFirstPart (view_of old.seen (file_of old)) (chosen news (stores old news)) i.pairs)
   left_now told =
       let done = x.done told in
       subst (λ p. Leaves moment_of left_of old store_now
-      (λ o. IsFirstPart (view_of old.seen (file_of old)) (chosen news p) o)) done.puts_are
+      (λ i. IsFirstPart (view_of old.seen (file_of old)) (chosen news p) i.pairs)) done.puts_are
       (left_more old turns news mark was stays turn told done.frames (chosen news puts) from
       done.pairs_are (from_all told) store_now refl refl own_now refl refl)
 

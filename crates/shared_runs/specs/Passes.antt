@@ -21,7 +21,7 @@ use Rattle.shared_runs.specs.Turns.{GoesOn}
 use Rattle.shared_runs.specs.Views.{pairs_at}
 
 -- The turn is not held, and the file has the frames that were to come, or no mark is kept. Where
--- one is kept it tells of the frames. Reads are counted.
+-- one is kept it tells of the frames. A told file was found to be a store. Reads are counted.
 pub record PassesTurn {H D : Type 0} (G : Ghosts H D) (K : DeviceGhosts D) (old new : Turns H)
     : Type 0 where
   pub held : (G.turn new.shared).held ≡ false
@@ -29,6 +29,7 @@ pub record PassesTurn {H D : Type 0} (G : Ghosts H D) (K : DeviceGhosts D) (old 
   pub first : K.tells → LeavesFirst G old.shared new.shared
   pub ended : (is_some new.mark ≡ false)
       ⊎ (K.tells → reading (G.content new.shared) ≡ Ok (G.coming old.shared))
+  pub undamaged : K.tells → new.damaged ≡ old.damaged
   pub grows : ends (G.coming old.shared) ≤ ends (G.coming new.shared)
   pub known : (m : StoreMark) → new.mark ≡ Some m → K.tells
       → IsMarked m (G.content new.shared) (G.images new.shared)
@@ -53,6 +54,7 @@ pub record PutsTurn {H D : Type 0} (G : Ghosts H D) (K : DeviceGhosts D) (pairs 
       (G.content new.shared)
   pub goes : K.tells → GoesOn G.moment G.images_since old.shared new.shared
       (HoldsFirstOrPut (length (frames_of (G.content old.shared))) (G.coming old.shared) pairs)
+  pub undamaged : K.tells → new.damaged ≡ old.damaged
   pub grows : ends (G.coming old.shared) ≤ ends (G.coming new.shared)
   pub known : (m : StoreMark) → new.mark ≡ Some m → K.tells
       → IsMarked m (G.content new.shared) (G.images new.shared)

@@ -18,9 +18,14 @@ use Rattle.shared_runs.specs.declared.turn.Shared.{Ghosts}
 use Rattle.shared_runs.specs.Costs.{cost_among}
 use Rattle.shared_runs.specs.Views.{pairs_at, view_of, Says}
 
--- an image says the pairs that were taken from it, whatever the run keeps
-abbrev pub said : {B : Type 0} → B → Option (List Pair) → Option (List Pair)
-said base left = left
+-- an image of the file, and the pairs that it says
+pub record Image : Type 0 where
+  pub bytes : List ℕ
+  pub pairs : Option (List Pair)
+
+-- an image says its pairs, whatever the run keeps
+abbrev pub said : {B : Type 0} → B → Image → Option (List Pair)
+said base image = image.pairs
 
 module _ {H D : Type 0} {G : Ghosts H D} {K : DeviceGhosts D} where
   -- the bytes of the file
@@ -52,11 +57,11 @@ module _ {H D : Type 0} {G : Ghosts H D} {K : DeviceGhosts D} where
   abbrev pub moment_of : SharedStore H D G K → Moment
   moment_of s = record { first = G.moment s.turns.shared; second = 0 }
 
-  -- what a crash since a moment may have left says
-  abbrev pub left_of : SharedStore H D G K → Moment → Option (List Pair) → Type 0
-  left_of s m left = (image : List ℕ) × (G.images_since s.turns.shared m.first image
+  -- what a crash since a moment may have left, and what it says
+  abbrev pub left_of : SharedStore H D G K → Moment → Image → Type 0
+  left_of s m image = G.images_since s.turns.shared m.first image.bytes
       × Says (is_some s.turns.mark) (G.images_since s.turns.shared (G.turn s.turns.shared).began)
-      s.seen (file_of s) image left)
+      s.seen (file_of s) image.bytes image.pairs
 
   -- ---- hits
 

@@ -1,7 +1,7 @@
 -- What a run sees of a file that others append to: the pairs of its first turn and those that it
 -- put itself.
 use Rattle.std.specs.List.{All}
-use Rattle.std.specs.Prelude.{◌≡◌, ◌⊎◌, ℕ, ◌≤◌, ◌<◌, Bool, false, List, length, Option, Some, None}
+use Rattle.std.specs.Prelude.{◌≡◌, ◌⊎◌, ℕ, ◌≤◌, ◌<◌, Bool, false, List, length, Option, Some}
 use Rattle.cache_api.specs.Pairs.{Pair}
 use Rattle.record_log.specs.Frames.{frames_of, IsSound}
 use Rattle.pair_frames.specs.Pairs.{pairs_in}
@@ -33,12 +33,12 @@ abbrev pub IsLeft : Bool → (List ℕ → Type 0) → List ℕ → List ℕ →
 IsLeft whole in_turn file image = IsFrontOf file image
     ⊎ ((whole ≡ false) × (in_turn image × HoldsOn (frames_of file) image))
 
--- it says the pairs in it that the run sees, and any other image says nothing
+-- It says the pairs in it that the run sees. What any other image says is not known: what holds of
+-- all that images say holds only where each image is one that the run leaves.
 abbrev pub Says : Bool → (List ℕ → Type 0) → SeenPairs → List ℕ → List ℕ → Option (List Pair)
     → Type 0
-Says whole in_turn seen file image left =
-    (IsLeft whole in_turn file image × (left ≡ Some (view_of seen image)))
-    ⊎ ((¬ IsLeft whole in_turn file image) × (left ≡ None))
+Says whole in_turn seen file image said =
+    IsLeft whole in_turn file image → said ≡ Some (view_of seen image)
 
 -- The file is a store, the run sees no more pairs of its first turn than it has, and its frames
 -- leave no more room than the run knows.

@@ -22,11 +22,10 @@ use std::alloc::Global;
 use store_dev::StoreDevice;
 
 impl<H: Shared> Cache for SharedStore<H> {
-    ghost use Rattle.std.specs.Prelude.{Option};
     ghost use Rattle.cache_api.specs.Pairs.{Pair};
     ghost use Rattle.artifact_store.specs.Hits.{shown_paths};
     ghost use Rattle.shared_runs.specs.Shared.{frames_in, state_of, cost_of, stands, shows, stores};
-    ghost use Rattle.shared_runs.specs.Shared.{moment_of, left_of, said};
+    ghost use Rattle.shared_runs.specs.Shared.{Image as left_image, moment_of, left_of, said};
     ghost use Rattle.shared_runs.specs.Passing.{LeavesFirst};
     ghost use Rattle.shared_runs.specs.Passes.{LeavesPut};
     ghost use Rattle.shared_runs.specs.SharedLaws.{rests};
@@ -48,7 +47,7 @@ impl<H: Shared> Cache for SharedStore<H> {
 
     ghost moment = { λ s. moment_of s };
 
-    ghost Image = { Option (List Pair) };
+    ghost Image = { left_image };
 
     ghost left = { λ s m image. left_of s m image };
 

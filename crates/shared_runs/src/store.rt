@@ -25,6 +25,8 @@ pub struct SharedStore<H: Shared> {
     // The numbers of the own pairs are below this one.
     pub(crate) next: u64,
     pub ghost idle: { (H.turn turns.shared).held ≡ false },
+    // A told file is found to be a store at each turn.
+    pub ghost undamaged: { H.Device.tells → turns.damaged ≡ 0 },
     pub ghost below: { All (λ n. n < next) seen.own },
     pub ghost sees: { H.Device.tells → Sees seen turns.room (H.content turns.shared) },
     pub ghost kept: { (m : StoreMark) → turns.mark ≡ Some m → H.Device.tells

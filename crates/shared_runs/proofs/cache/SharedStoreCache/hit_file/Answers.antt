@@ -21,6 +21,7 @@ invariant_of-self g c =
     (old.sees told).sound in
     record {
       idle = turn.held;
+      undamaged = λ told. turn.undamaged told ∙ old.undamaged told;
       below = old.below;
       sees = sees_passed old c.read.new.self m was stays turn;
       kept = kept_passed old c.read.new.self m was stays turn;

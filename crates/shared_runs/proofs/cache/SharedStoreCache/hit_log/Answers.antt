@@ -1,4 +1,4 @@
-use Rattle.std.proofs.Common.{refl, ap}
+use Rattle.std.proofs.Common.{◌∙◌, refl, ap}
 use Rattle.shared_runs.proofs.Calls.{sees_passed, kept_passed, passed_store, ok_read}
 use Rattle.shared_runs.proofs.Ending.{some_of}
 use Rattle.shared_runs.proofs.Stepping.{reads_steps}
@@ -14,6 +14,7 @@ invariant_of-self g c =
     (old.sees told).sound in
     record {
       idle = turn.held;
+      undamaged = λ told. turn.undamaged told ∙ old.undamaged told;
       below = old.below;
       sees = sees_passed old c.read.new.self m was stays turn;
       kept = kept_passed old c.read.new.self m was stays turn;

@@ -1,4 +1,4 @@
-use Rattle.std.proofs.Common.{refl, ap}
+use Rattle.std.proofs.Common.{◌∙◌, refl, ap}
 use Rattle.cache_api.specs.Keys.{text_of as key_text}
 use Rattle.shared_runs.proofs.Calls.{sees_passed, kept_passed, passed_store, ok_read, found_there}
 use Rattle.shared_runs.proofs.Ending.{some_of}
@@ -15,6 +15,7 @@ invariant_of-self g c =
     g.met.H.Shared.stays old.turns.shared told (old.sees told).sound in
     record {
       idle = turn.held;
+      undamaged = λ told. turn.undamaged told ∙ old.undamaged told;
       below = old.below;
       sees = sees_passed old c.look.new.self m was stays turn;
       kept = kept_passed old c.look.new.self m was stays turn;

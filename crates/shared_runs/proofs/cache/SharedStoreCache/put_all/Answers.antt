@@ -40,6 +40,7 @@ invariant_of-self g c =
     let turn = c.put.ensures.turn in
     record {
       idle = turn.held;
+      undamaged = λ told. turn.undamaged told ∙ old.undamaged told;
       below = old.below;
       sees = λ told. sees_put old new news m was stays turn told new.room (omega arith);
       kept = kept_put old new news m was stays turn;
@@ -56,6 +57,7 @@ invariant_of-self-in-Err g c =
     let turn = put_dropped news old.turns c.put.new.self c.put.ensures.turn in
     record {
       idle = turn.held;
+      undamaged = λ told. turn.undamaged told ∙ old.undamaged told;
       below = old.below;
       sees = λ told. sees_put old new news m was stays turn told new.room (omega arith);
       kept = kept_put old new news m was stays turn;
@@ -280,6 +282,7 @@ invariant_of-self-in-Ok g c =
     let seen = seen_now old new news m was stays turn puts from next own x in
     record {
       idle = turn.held;
+      undamaged = λ told. turn.undamaged told ∙ old.undamaged told;
       below = below;
       sees = sees_own old new news m was stays turn seen next refl below few;
       kept = kept_own old new news m was stays turn seen next refl below few;

@@ -40,7 +40,7 @@ returns-in_err-store-clause-turn g c =
     let passes = passes_err h g.H.Device.StoreDevice old mid opens.began opens.file
     (λ told. g.met.H.Shared.stays old.shared told (c.requires.known m is told).sound) opens.grows
     opens.given opens.mark
-    opens.same opens.reads in
+    opens.same opens.reads opens.told in
     record {
       held = passes.held;
       began = passes.began;
@@ -48,6 +48,7 @@ returns-in_err-store-clause-turn g c =
       goes = λ told. goes_more h.moment h.images_since old.shared mid.shared
           (HoldsFirst least (h.coming old.shared))
           (HoldsFirstOrPut least (h.coming old.shared) news) (opens.file told).goes (λ b p. inl p);
+      undamaged = passes.undamaged;
       grows = passes.grows;
       known = passes.known;
       free = passes.free;
@@ -103,6 +104,7 @@ returns-in_err-puts-clause-turn g c =
       goes = puts_goes h k old.shared mid.shared s n news opens.turn sound put.images put.after
           put.cause.later
           new.shared opens.file starts given goes earlier;
+      undamaged = λ told. end.damaged ∙ opens.told told;
       grows = omega (arith, opens.grows, end.grows);
       known = end.known;
       free = λ told free.
@@ -146,6 +148,7 @@ returns-clause-turn g c =
       goes = puts_goes h k old.shared mid.shared s n news opens.turn sound put.images put.after
           put.cause.later
           new.shared opens.file starts given goes earlier;
+      undamaged = λ told. end.damaged ∙ opens.told told;
       grows = omega (arith, opens.grows, end.grows);
       known = end.known;
       free = λ told free.

@@ -17,7 +17,7 @@ returns-in_err-store-clause-turn g c =
     let opens = c.in_err-store.ensures in
     passes_err g.H.Shared g.H.Device.StoreDevice old c.open_turn.new.self opens.began opens.file
     (λ told. g.met.H.Shared.stays old.shared told (c.requires.known m is told).sound) opens.grows
-    opens.given opens.mark opens.same opens.reads
+    opens.given opens.mark opens.same opens.reads opens.told
 
 pub read_at-bytes-requires : goal.read_at-bytes-requires
 read_at-bytes-requires g c told =
@@ -87,7 +87,7 @@ returns-clause-turn g c =
     (λ n b le now. g.met.H.Device.StoreDevice.counts_now (store.device_of s) n b le now)
     (λ told. (c.requires.known m is told).sound) end.held end.began end.file end.known end.time
     (λ a b x le lt left. g.met.H.Shared.earlier new.shared a b x le lt left) end.grows opens.free
-    end.room (omega (arith, opens.reads, end.more))
+    end.room (omega (arith, opens.reads, end.more)) (λ told. end.damaged ∙ opens.told told)
 
 pub returns-clause-few : goal.returns-clause-few
 returns-clause-few g c =

@@ -1,0 +1,6 @@
+mod Standing
+mod Leaving
+mod Ready
+mod Ending
+mod Finished
+mod Outcomes

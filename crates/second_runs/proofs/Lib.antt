@@ -1,0 +1,12 @@
+mod Finished
+mod Ready
+mod Behind
+mod Relaying
+mod Handing
+mod Causes
+mod Reading
+mod Currents
+mod Only
+mod Stopping
+mod Pairs
+mod Truth
