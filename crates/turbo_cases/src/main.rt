@@ -23,7 +23,7 @@ use std::{env, fs};
 use tally::Tally;
 
 /// The groups, each in a file of its name.
-const GROUPS: [&str; 18] = [
+const GROUPS: [&str; 19] = [
     "one_package",
     "monorepo",
     "graphs",
@@ -39,6 +39,7 @@ const GROUPS: [&str; 18] = [
     "pruning",
     "sample",
     "compaction",
+    "stores",
     "refusals",
     "sizes",
     "limits",
