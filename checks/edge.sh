@@ -72,62 +72,6 @@ two_runs() {
 }
 check 'a run beside another one keeps no results, and harms none' two_runs
 
-compaction() {
-    one "$build"
-    "$program" build >/dev/null && "$program" build --force >/dev/null || return 1
-    [ "$("$program" compact)" = 'kept 1 of 2' ] || return 1
-    rm -rf packages/ui/dist .turbo/store.turb
-    "$program" build | grep -q '1 cached, 1 total' && [ "$("$program" compact)" = 'kept 1 of 1' ]
-}
-check 'what compaction keeps is found without the old file, and compacted back' compaction
-
-compaction_beside() {
-    one "$build"
-    "$program" build >/dev/null || return 1
-    "$program" lint >"$work/lint" 2>"$work/lint.err" &
-    local other=$!
-    sleep 0.3
-    ! "$program" compact >"$work/out" 2>"$work/err" || return 1
-    wait $other || return 1
-    says 'another run holds' && grep -qx 'turbo: the store failed' "$work/out" || return 1
-    "$program" build | grep -q '1 cached, 1 total' && [ "$("$program" compact)" = 'kept 2 of 2' ]
-}
-check 'a compaction beside a run changes nothing' compaction_beside
-
-second_store() {
-    one "$build"
-    export TURBO_REMOTE_STORE=$work/cache/second.turb
-    "$program" build --cache=local:rw,remote:rw >/dev/null || return 1
-    cp "$work/cache/second.turb" "$work/before"
-    one "$build"
-    "$program" build --cache=local:rw,remote:r | grep -q '1 cached, 1 total' || return 1
-    cmp -s "$work/cache/second.turb" "$work/before" || return 1
-    printf xxxxxxxxxx >"$work/cache/second.turb"
-    ! "$program" build --cache=remote:rw >"$work/out" 2>"$work/err" || return 1
-    grep -qx 'turbo: the remote file is no store' "$work/out" && says "delete $work/cache/second.turb"
-    local status=$?
-    unset TURBO_REMOTE_STORE
-    return $status
-}
-check 'another checkout finds the results of a second store, which is named where it is none' second_store
-
-# Two checkouts of one repository, whose runs begin at the same moment.
-shared_runs() {
-    one 'sleep 0.2; mkdir -p dist; echo built'
-    rm -rf "$work/other" && cp -R "$work/one" "$work/other"
-    export TURBO_SHARED_STORE=$work/cache/shared.turb
-    (cd "$work/other" && "$program" build --shared >"$work/other.out" 2>"$work/other.err") &
-    local other=$! status=0
-    "$program" build --shared >"$work/out" 2>"$work/err" || status=1
-    wait $other || status=1
-    rm -rf packages/ui/dist
-    "$program" build --shared | grep -q '1 cached, 1 total' || status=1
-    ! says 'another run' || status=1
-    unset TURBO_SHARED_STORE
-    return $status
-}
-check 'two runs at once over one shared file keep their results' shared_runs
-
 nested() {
     one 'cd ../..; '"$program"' lint'
     timeout 20 "$program" build >"$work/out" 2>"$work/err"

@@ -1,16 +1,13 @@
 // The program over the devices of the system.
-ghost use Rattle.std.specs.Prelude.{◌≡◌, false};
 ghost use Rattle.spawn_dev.specs.Spawn.{IsIdle};
 
 use crate::advice::{advise, say_out_of_memory};
-use crate::paths::path_of;
 use crate::status::exit_status;
 use os_edge::{
-    OsSink, OsStore, OsWorld, WordErr, environment, open_streams, warn_of_unread_config, words,
+    OsSink, OsStore, OsWorld, STORE_PATH, WordErr, environment, open_streams,
+    warn_of_unread_config, words,
 };
-use os_shared::OsShared;
 use rel_path::Text;
-use shared_runs::Shared;
 use spawn_dev::Spawner;
 use std::alloc::Global;
 use std::env::Env;
@@ -21,12 +18,15 @@ use std::rt::Files;
 use std::time::Clock;
 use store_dev::StoreDevice;
 use tree_dev::Sink;
-use turbo_app::{Answer, StoreFile};
+use turbo_app::Answer;
 
 /// What the program asks of the runtime.
 pub trait System: Env + Files<File = File> + Processes + Clock + Print + Eprint + AllocGlobal {}
 
 impl<R: Env + Files<File = File> + Processes + Clock + Print + Eprint + AllocGlobal> System for R {}
+
+/// The file of the spare store.
+pub(crate) const SPARE_PATH: &str = ".turbo/spare.turb";
 
 // The word in front of an order to compact.
 const COMPACT: &str = "compact";
@@ -73,59 +73,38 @@ where
 {
     let mut world = OsWorld::new(rt, alloc);
     let mut out = OsSink::new(rt);
-    let stores = Stores {
-        store: store_at(rt, words, path_of(env, StoreFile::Store)),
-        spare: store_at(rt, words, path_of(env, StoreFile::Spare)),
-        second: OsStore::at(rt, path_of(env, StoreFile::Second)),
-        shared: OsShared::at(rt, path_of(env, StoreFile::Shared)),
-    };
-    let (answer, status) = ended(alloc, words, env, &mut world, stores, &mut out);
-    advise(rt, words, env, &answer);
+    let store = store_at(rt, words, STORE_PATH);
+    let spare = store_at(rt, words, SPARE_PATH);
+    let (answer, status) = ended(alloc, words, env, &mut world, store, spare, &mut out);
+    advise(rt, words, &answer);
     status
 }
 
 // A run goes on without its store while another one holds it, and a compaction must not.
-fn store_at<'r, 'p, R: System>(rt: &'r R, words: &[Text], path: &'p str) -> OsStore<'p, &'r R> {
+fn store_at<'r, R: System>(
+    rt: &'r R,
+    words: &[Text],
+    path: &'static str,
+) -> OsStore<'static, &'r R> {
     match words.first() {
         Some(word) if word.as_str() == COMPACT => OsStore::alone(rt, path),
         _ => OsStore::at(rt, path),
     }
 }
 
-// The devices of the stores.
-struct Stores<S, P, R, H> {
-    store: S,
-    spare: P,
-    second: R,
-    shared: H,
-}
-
 // The call without its clauses, which say nothing of the system's devices and would take the prover
 // minutes there.
-fn ended<
-    W: Spawner,
-    S: StoreDevice + Drop,
-    P: StoreDevice + Drop,
-    R: StoreDevice + Drop,
-    H: Shared + Drop,
-    K: Sink,
->(
+fn ended<W: Spawner, S: StoreDevice + Drop, P: StoreDevice + Drop, K: Sink>(
     alloc: Global,
     words: &[Text],
     env: &[(Text, Text)],
     world: &mut W,
-    stores: Stores<S, P, R, H>,
+    store: S,
+    spare: P,
     out: &mut K,
 ) -> (Answer, u8)
-    requires idle { IsIdle (W.runs world.old) }
-    requires turn { (H.turn stores.shared).held ≡ false }
+    requires { IsIdle (W.runs world.old) }
 {
-    let Stores {
-        store,
-        spare,
-        second,
-        shared,
-    } = stores;
-    let outcome = exit_status(alloc, words, env, world, store, spare, second, shared, out);
+    let outcome = exit_status(alloc, words, env, world, store, spare, out);
     (outcome.answer, outcome.status)
 }

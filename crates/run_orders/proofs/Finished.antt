@@ -57,14 +57,3 @@ refused_all P StoreFault all = tt
 refused_all P StartFault all = tt
 refused_all P SinkFault all = tt
 refused_all P OutOfMemory all = tt
-
--- a premise may stand within
-pub done_under : (r : Answer) (A : Type 0) (P : ℕ → Type 0) → (A → IfDone r P)
-    → IfDone r (λ status. A → P status)
-done_under (Done status) A P h = h
-done_under (Refused reason) A P h = tt
-done_under TreeFault A P h = tt
-done_under StoreFault A P h = tt
-done_under StartFault A P h = tt
-done_under SinkFault A P h = tt
-done_under OutOfMemory A P h = tt

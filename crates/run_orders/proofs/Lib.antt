@@ -1,11 +1,9 @@
 mod Finished
 mod Only
+mod NotBuilt
 mod Left
 mod Ready
 pub mod Current
 mod Unstarted
 mod Rested
 mod Found
-mod Causes
-mod Alone
-mod Using

@@ -20,15 +20,6 @@ use Rattle.run_plan.specs.Openings.{Opening}
 use Rattle.runner.specs.Answers.{HasSafePairs}
 use Rattle.plan_laws.specs.Laws.{AsksFor}
 use Rattle.answers.specs.Moments.{Moment}
-use Rattle.shared_runs.specs.declared.turn.Shared as shared
-use Rattle.second_runs.specs.Images.{IsTrustedSecond, IsLeftInBoth, IsLeftInSecond}
-use Rattle.file_runs.specs.Images.{IsOneOrAddedTo, IsDueBy}
-use Rattle.file_runs.specs.Outcomes.{IsTrustedOver}
-use Rattle.cli_words.specs.declared.order.Access.{Access}
-use Rattle.run_orders.specs.Moments.{OrderMoment, on_current, on_second, on_shared}
-use Rattle.run_orders.specs.Uses.{uses_of}
-use Rattle.run_orders.specs.declared.uses.Uses.{Uses}
-use Rattle.run_orders.specs.declared.uses.Uses.TheVariants.{Current, Second, Shared}
 use Rattle.run_orders.specs.Outcomes.{opening_at}
 
 -- ---- pairs are only added
@@ -62,6 +53,11 @@ IsTrustedRun false book plan pairs = IsTrusted book plan pairs
 abbrev pub IsTrustedPlan : Bool → Book → Plan → Moment → Type 0
 IsTrustedPlan is_dry book plan old =
     (pairs : List Pair) → old.held.pairs ≡ Some pairs → IsTrustedRun is_dry book plan pairs
+
+-- the plan is the one that the order asks for
+abbrev pub IsTrustedOrder : RunOrder → Book → List (List ℕ × List ℕ) → Moment → Type 0
+IsTrustedOrder order book env old =
+    (plan : Plan) → AsksFor order env old.files (Ok plan) → IsTrustedPlan order.dry book plan old
 
 -- ---- what a crash leaves
 
@@ -99,6 +95,13 @@ abbrev pub IsLeftByPlan : Bool → Book → Plan → Moment → List Step → (L
 IsLeftByPlan is_dry book plan old steps stores spares f s = IsOneOfBoth stores spares f s
     ⊎ IsLeftOfHeld is_dry book plan old steps (pairs_of f s)
 
+-- the same of the plan that the order asks for
+abbrev pub IsLeftByOrder : RunOrder → Book → List (List ℕ × List ℕ) → Moment → List Step
+    → (List ℕ → Type 0) → (List ℕ → Type 0) → List ℕ → List ℕ → Type 0
+IsLeftByOrder order book env old steps stores spares f s = IsOneOfBoth stores spares f s
+    ⊎ ((plan : Plan) × AsksFor order env old.files (Ok plan)
+    × IsLeftByPlan order.dry book plan old steps stores spares f s)
+
 -- Q holds of each image of the one device at any moment of a call, with each image of the other one
 -- at any moment of it
 abbrev pub LeavesPairs : {S P : Type 0} → Ghosts S → Ghosts P → S → S → P → P
@@ -110,76 +113,3 @@ LeavesPairs G H old new spare new_spare Q = (f s : List ℕ)
 abbrev pub RereadsOther : {S P : Type 0} → Ghosts S → Ghosts P → Side → S → S → P → P → Type 0
 RereadsOther G H First old new spare new_spare = IsReread H spare new_spare
 RereadsOther G H Spare old new spare new_spare = IsReread G old new
-
--- ---- over the stores that an order uses
-
-abbrev pub IsTrustedBy : Uses → RunOrder → Book → Plan → OrderMoment → Type 0
-IsTrustedBy Current order book plan old = IsTrustedPlan order.dry book plan (on_current old)
-IsTrustedBy Second order book plan old =
-    IsTrustedSecond order.dry order.access book plan (on_second order.access old)
-IsTrustedBy Shared order book plan old = IsTrustedOver order.dry book plan (on_shared old)
-
--- the plan is the one that the order asks for
-abbrev pub IsTrustedOrder : RunOrder → Book → List (List ℕ × List ℕ) → OrderMoment → Type 0
-IsTrustedOrder order book env old = (plan : Plan) → AsksFor order env old.files (Ok plan)
-    → IsTrustedBy (uses_of order) order book plan old
-
--- what the current one of two images of the store and the spare one stands for
-abbrev pub IsLeftLocal : Uses → RunOrder → Book → Plan → OrderMoment → List Step
-    → (List ℕ → Type 0) → (List ℕ → Type 0) → List ℕ → List ℕ → Type 0
-IsLeftLocal Current order book plan old steps stores spares f s =
-    IsLeftByPlan order.dry book plan (on_current old) steps stores spares f s
-IsLeftLocal Second order book plan old steps stores spares f s =
-    IsLeftInBoth order.dry order.access book plan (on_second order.access old) steps
-    stores spares f s
-IsLeftLocal Shared order book plan old steps stores spares f s = IsOneOfBoth stores spares f s
-
--- an image of the second store, whose bytes were these
-abbrev pub IsLeftSecond : Uses → RunOrder → Book → Plan → OrderMoment → List Step
-    → (List ℕ → Type 0) → List ℕ → Type 0
-IsLeftSecond Second order book plan old steps images c =
-    IsLeftInSecond order.dry order.access book plan (on_second order.access old) steps
-    (generation_in old.stores.second) images c
-IsLeftSecond Current order book plan old steps images c = ReadsAsOneOf images c
-IsLeftSecond Shared order book plan old steps images c = ReadsAsOneOf images c
-
--- an image of the shared file, which a run may have added to till that moment
-module _ {H D : Type 0} (G : shared.Ghosts H D) (file : H) where
-  abbrev pub IsLeftShared : Uses → RunOrder → Book → Plan → OrderMoment → OrderMoment → List ℕ
-      → Type 0
-  IsLeftShared Shared order book plan old new c =
-      IsOneOrAddedTo G file (on_shared old)
-      (IsDueBy order.dry book plan (on_shared old) (on_shared new)) c
-  IsLeftShared Current order book plan old new c = G.images file c
-  IsLeftShared Second order book plan old new c = G.images file c
-
--- whether results are put into the local store, and into the second one
-abbrev pub puts_local : Uses → Access → Bool
-puts_local Current access = true
-puts_local Second access = access.local_puts
-puts_local Shared access = false
-
-abbrev pub puts_second : Uses → Access → Bool
-puts_second Current access = false
-puts_second Second access = access.second_puts
-puts_second Shared access = false
-
--- ---- of the plan that an order asks for, where there is one
-
-abbrev pub IsLeftByOrder : RunOrder → Book → List (List ℕ × List ℕ) → OrderMoment → List Step
-    → (List ℕ → Type 0) → (List ℕ → Type 0) → List ℕ → List ℕ → Type 0
-IsLeftByOrder order book env old steps stores spares f s = IsOneOfBoth stores spares f s
-    ⊎ ((plan : Plan) × AsksFor order env old.files (Ok plan)
-    × IsLeftLocal (uses_of order) order book plan old steps stores spares f s)
-
-abbrev pub IsSecondByOrder : RunOrder → Book → List (List ℕ × List ℕ) → OrderMoment → List Step
-    → (List ℕ → Type 0) → List ℕ → Type 0
-IsSecondByOrder order book env old steps images c = ReadsAsOneOf images c
-    ⊎ ((plan : Plan) × AsksFor order env old.files (Ok plan)
-    × IsLeftSecond (uses_of order) order book plan old steps images c)
-
-abbrev pub IsSharedByOrder : {H D : Type 0} → shared.Ghosts H D → H → RunOrder → Book
-    → List (List ℕ × List ℕ) → OrderMoment → OrderMoment → List ℕ → Type 0
-IsSharedByOrder G file order book env old new c = G.images file c
-    ⊎ ((plan : Plan) × AsksFor order env old.files (Ok plan)
-    × IsLeftShared G file (uses_of order) order book plan old new c)

@@ -1,5 +1,4 @@
 mod Alone
-mod Causing
 mod Chain
 mod Compacting
 mod Truth

@@ -1,12 +1,10 @@
 // The one call of the program over devices in memory, and what is seen of it.
-ghost use Rattle.std.specs.Prelude.{◌≡◌, false};
 ghost use Rattle.spawn_dev.specs.Spawn.{IsIdle};
 
 use crate::scene::read_text;
-use anyhow::{Result, anyhow};
+use anyhow::{Context, Result};
 use case_files::Vast;
 use rel_path::{Bytes, Files, Pairs, Text, Texts};
-use shared_runs::{MemShared, Shared};
 use spawn_dev::{MemWorld, Spawner};
 use std::alloc::Global;
 use store_dev::{FuseStore, StoreDevice};
@@ -35,8 +33,6 @@ pub struct Seen {
     pub files: Files,
     pub store: Bytes,
     pub spare: Bytes,
-    pub second: Bytes,
-    pub shared: Bytes,
 }
 
 fn name_of(answer: &Answer) -> &'static str {
@@ -52,31 +48,18 @@ fn name_of(answer: &Answer) -> &'static str {
 }
 
 // No clause of the call is wanted here: what it did is looked at.
-fn called<W: Spawner, S: StoreDevice, P: StoreDevice, R: StoreDevice, H: Shared, K: Sink>(
+fn called<W: Spawner, S: StoreDevice, P: StoreDevice, K: Sink>(
     alloc: Global,
     words: &[Text],
     environment: &[(Text, Text)],
     world: &mut W,
     store: S,
     spare: P,
-    second: R,
-    shared: H,
     output: &mut K,
-) -> (Answer, S, P, R, H)
-    requires idle { IsIdle (W.runs world.old) }
-    requires turn { (H.turn shared).held ≡ false }
+) -> (Answer, S, P)
+    requires { IsIdle (W.runs world.old) }
 {
-    turbo(
-        alloc,
-        words,
-        environment,
-        world,
-        store,
-        spare,
-        second,
-        shared,
-        output,
-    )
+    turbo(alloc, words, environment, world, store, spare, output)
 }
 
 fn starts_of(alloc: Global, world: &MemWorld) -> Result<String> {
@@ -90,37 +73,12 @@ fn starts_of(alloc: Global, world: &MemWorld) -> Result<String> {
     Ok(text)
 }
 
-/// A store for a call. Where a crash is told, its fill and how many bytes it keeps, what is seen of the store is what
-/// such a crash leaves.
-#[derive(Drop)]
-pub struct Cuttable {
-    pub store: FuseStore,
-    pub crash: Option<(u8, u64)>,
-}
-
-/// The stores of a call beside the first one. The shared file has these bytes, and the calls with these numbers fail.
-#[derive(Drop)]
-pub struct Others {
-    pub spare: Cuttable,
-    pub second: Cuttable,
-    pub shared: Bytes,
-    pub shared_fails: Vec<u64>,
-}
-
-/// What is left of these.
-#[derive(Drop)]
-struct OthersLeft {
-    spare: Bytes,
-    second: Bytes,
-    shared: Bytes,
-}
-
 fn seen_of(
     alloc: Global,
     given: &Given,
     answer: &Answer,
     store: Bytes,
-    others: OthersLeft,
+    spare: Bytes,
 ) -> Result<Seen> {
     Ok(Seen {
         answer: name_of(answer),
@@ -130,10 +88,29 @@ fn seen_of(
         page: read_text(alloc, given.output.written())?,
         files: given.world.files().copy()?,
         store,
-        spare: others.spare,
-        second: others.second,
-        shared: others.shared,
+        spare,
     })
+}
+
+// Calls the program over two stores. `None` where a command runs already.
+fn answered<S: StoreDevice + Drop, P: StoreDevice + Drop>(
+    alloc: Global,
+    given: &mut Given,
+    store: S,
+    spare: P,
+) -> Option<(Answer, S, P)> {
+    if !given.world.is_idle() {
+        return None;
+    }
+    Some(called(
+        alloc,
+        given.words.as_slice(),
+        given.environment.as_slice(),
+        &mut given.world,
+        store,
+        spare,
+        &mut given.output,
+    ))
 }
 
 // What is left of a store: its bytes, or what such a crash leaves of them.
@@ -145,49 +122,37 @@ fn left_of(alloc: Global, store: &FuseStore, crash: Option<(u8, u64)>) -> Result
     Ok(Bytes::read(alloc, crashed.bytes())?)
 }
 
-// Calls the program over the stores. `None` where a command runs already.
-fn answered<S: StoreDevice + Drop>(
-    alloc: Global,
-    given: &mut Given,
-    store: S,
-    others: Others,
-) -> Result<(Answer, S, OthersLeft)> {
-    if !given.world.is_idle() {
-        return Err(anyhow!("a command runs"));
-    }
-    let (crash, second_crash) = (others.spare.crash, others.second.crash);
-    let (answer, store, spare, second, shared) = called(
-        alloc,
-        given.words.as_slice(),
-        given.environment.as_slice(),
-        &mut given.world,
-        store,
-        others.spare.store,
-        others.second.store,
-        MemShared::new(alloc, others.shared, Vec::new(alloc), others.shared_fails),
-        &mut given.output,
-    );
-    let left = OthersLeft {
-        spare: left_of(alloc, &spare, crash)?,
-        second: left_of(alloc, &second, second_crash)?,
-        shared: Bytes::read(alloc, shared.bytes())?,
-    };
-    Ok((answer, store, left))
+/// A store for a call. Where a crash is told, its fill and how many bytes it keeps, what is seen of the store is what
+/// such a crash leaves.
+#[derive(Drop)]
+pub struct Cuttable {
+    pub store: FuseStore,
+    pub crash: Option<(u8, u64)>,
 }
 
 /// Calls the program.
-pub fn call(alloc: Global, given: Given, store: Cuttable, others: Others) -> Result<Seen> {
+pub fn call(alloc: Global, given: Given, store: Cuttable, spare: Cuttable) -> Result<Seen> {
     let mut given = given;
-    let crash = store.crash;
-    let (answer, left, others) = answered(alloc, &mut given, store.store, others)?;
-    let left = left_of(alloc, &left, crash)?;
-    seen_of(alloc, &given, &answer, left, others)
+    let (answer, left, spare_left) = answered(alloc, &mut given, store.store, spare.store).context(
+        "a command runs",
+    )?;
+    let left = left_of(alloc, &left, store.crash)?;
+    let spare_left = left_of(alloc, &spare_left, spare.crash)?;
+    seen_of(alloc, &given, &answer, left, spare_left)
 }
 
 /// Calls the program over a store that is nearly full, of which nothing is seen.
-pub fn call_full(alloc: Global, given: Given, store: Vast, others: Others) -> Result<Seen> {
+pub fn call_full(alloc: Global, given: Given, store: Vast, spare: Cuttable) -> Result<Seen> {
     let mut given = given;
-    let (answer, _store, others) = answered(alloc, &mut given, store, others)?;
-    let nothing = Bytes::from_vec(Vec::new(alloc));
-    seen_of(alloc, &given, &answer, nothing, others)
+    let (answer, _store, spare_left) = answered(alloc, &mut given, store, spare.store).context(
+        "a command runs",
+    )?;
+    let spare_left = left_of(alloc, &spare_left, spare.crash)?;
+    seen_of(
+        alloc,
+        &given,
+        &answer,
+        Bytes::from_vec(Vec::new(alloc)),
+        spare_left,
+    )
 }

@@ -76,8 +76,6 @@ fn differences_of(alloc: Global, run: &Run) -> Result<Vec<String>> {
         scene.files = seen.files.copy()?;
         scene.store = seen.store.copy()?;
         scene.spare = seen.spare.copy()?;
-        scene.second = seen.second.copy()?;
-        scene.shared = seen.shared.copy()?;
         first = first.or(Some(seen));
     }
     Ok(Vec::new(alloc))

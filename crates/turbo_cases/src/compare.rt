@@ -121,28 +121,19 @@ fn compare_store(
     if let Some(stored) = wanted.stored {
         differences.compare_number("bytes of the store", stored, seen.store.as_slice().len())?;
     }
-    let results = [
-        ("results in the store", wanted.pairs, &seen.store),
-        (
+    if let Some(pairs) = wanted.pairs {
+        differences.compare_number(
+            "results in the store",
+            pairs,
+            pairs_in(seen.store.as_slice()),
+        )?;
+    }
+    if let Some(pairs) = wanted.spare_pairs {
+        differences.compare_number(
             "results in the spare store",
-            wanted.spare_pairs,
-            &seen.spare,
-        ),
-        (
-            "results in the second store",
-            wanted.second_pairs,
-            &seen.second,
-        ),
-        (
-            "results in the shared file",
-            wanted.shared_pairs,
-            &seen.shared,
-        ),
-    ];
-    for (what, wanted, store) in results.iter() {
-        if let Some(pairs) = wanted {
-            differences.compare_number(what, *pairs, pairs_in(store.as_slice()))?;
-        }
+            pairs,
+            pairs_in(seen.spare.as_slice()),
+        )?;
     }
     if let Some(store) = &wanted.store {
         let came = text_of(alloc, seen.store.as_slice())?;

@@ -85,12 +85,9 @@ pub struct Step {
     /// Changes to the files before the call.
     #[serde(default)]
     pub write: Contents,
-    /// The bytes of the store before the call, a character each, and those of the spare one, of the second one and of
-    /// the shared file.
+    /// The bytes of the store before the call, a character each, and those of the spare one.
     pub store: Option<String>,
     pub spare: Option<String>,
-    pub second: Option<String>,
-    pub shared: Option<String>,
     /// In the place of the store one with room for so many bytes more, of which nothing is seen behind the call.
     pub room: Option<u32>,
     /// Bytes of the store that are changed before the call.
@@ -128,10 +125,6 @@ pub struct Fails {
     #[serde(default)]
     pub spare: Vec<u64>,
     #[serde(default)]
-    pub second: Vec<u64>,
-    #[serde(default)]
-    pub shared: Vec<u64>,
-    #[serde(default)]
     pub output: Vec<u64>,
 }
 
@@ -150,11 +143,9 @@ pub struct Wanted {
     pub files: BTreeMap<String, Option<String>>,
     /// How many bytes the store has.
     pub stored: Option<usize>,
-    /// How many results the store has, the spare one, the second one and the shared file.
+    /// How many results the store has, and how many the spare one.
     pub pairs: Option<usize>,
     pub spare_pairs: Option<usize>,
-    pub second_pairs: Option<usize>,
-    pub shared_pairs: Option<usize>,
     /// The bytes of the store, a character each.
     pub store: Option<String>,
     /// Whether the page and the length of the store are those of the first step.
@@ -169,14 +160,11 @@ pub enum Device {
     World,
     Store,
     Spare,
-    Second,
-    Shared,
     Output,
     /// The store is cut off before the call, and crashed behind the step.
     Cut,
-    /// The same of the spare store, and of the second one.
+    /// The same of the spare store.
     CutSpare,
-    CutSecond,
 }
 
 /// Has the case run once for each outcome: in the run of number k the call of number k fails in one of the steps.

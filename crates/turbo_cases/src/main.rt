@@ -23,7 +23,7 @@ use std::{env, fs};
 use tally::Tally;
 
 /// The groups, each in a file of its name.
-const GROUPS: [&str; 19] = [
+const GROUPS: [&str; 18] = [
     "one_package",
     "monorepo",
     "graphs",
@@ -39,7 +39,6 @@ const GROUPS: [&str; 19] = [
     "pruning",
     "sample",
     "compaction",
-    "stores",
     "refusals",
     "sizes",
     "limits",

@@ -1,10 +1,10 @@
 // One step of a case: what it is given, and the call.
-use crate::called::{Cuttable, Given, Others, Seen, call, call_full};
+use crate::called::{Cuttable, Given, Seen, call, call_full};
 use crate::commands::book_of;
 use crate::faults::{Fault, StoreFaults, faults_of};
 use crate::format::{Case, Group, Step};
 use crate::many::push_many;
-use crate::scene::{Scene, store_of};
+use crate::scene::Scene;
 use anyhow::{Context, Result};
 use case_files::Vast;
 use rel_path::{Bytes, Pairs, Text, Texts};
@@ -45,14 +45,6 @@ pub fn scene_of(alloc: Global, group: &Group, case: &Case) -> Result<Scene> {
     Ok(scene)
 }
 
-// Puts the bytes in the place of a store's, where there are some.
-fn set(alloc: Global, store: &mut Bytes, text: Option<&String>) -> Result<()> {
-    if let Some(text) = text {
-        *store = store_of(alloc, text.as_str())?;
-    }
-    Ok(())
-}
-
 // Makes the changes that come before the call.
 fn prepare(
     alloc: Global,
@@ -67,10 +59,12 @@ fn prepare(
     if let Some(folder) = &step.enter {
         scene.enter(alloc, folder.as_str())?;
     }
-    set(alloc, &mut scene.store, step.store.as_ref())?;
-    set(alloc, &mut scene.spare, step.spare.as_ref())?;
-    set(alloc, &mut scene.second, step.second.as_ref())?;
-    set(alloc, &mut scene.shared, step.shared.as_ref())?;
+    if let Some(store) = &step.store {
+        scene.set_store(alloc, store.as_str())?;
+    }
+    if let Some(spare) = &step.spare {
+        scene.set_spare(alloc, spare.as_str())?;
+    }
     scene.write(alloc, &step.write)?;
     scene.patch(alloc, step.patch.as_slice())
 }
@@ -114,15 +108,10 @@ pub fn run_step(
     prepare(alloc, group, case, step, scene)?;
     let faults = faults_of(alloc, step, fault)?;
     let given = given_to(alloc, group, case, step, scene, faults.world, faults.output)?;
-    let others = Others {
-        spare: cuttable(alloc, &scene.spare, faults.spare)?,
-        second: cuttable(alloc, &scene.second, faults.second)?,
-        shared: scene.shared.copy()?,
-        shared_fails: faults.shared,
-    };
+    let spare = cuttable(alloc, &scene.spare, faults.spare)?;
     if let Some(room) = step.room {
-        return call_full(alloc, given, Vast::with_room(alloc, room.into())?, others);
+        return call_full(alloc, given, Vast::with_room(alloc, room.into())?, spare);
     }
     let store = cuttable(alloc, &scene.store, faults.store)?;
-    call(alloc, given, store, others)
+    call(alloc, given, store, spare)
 }
