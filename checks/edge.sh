@@ -72,6 +72,28 @@ two_runs() {
 }
 check 'a run beside another one keeps no results, and harms none' two_runs
 
+compaction() {
+    one "$build"
+    "$program" build >/dev/null && "$program" build --force >/dev/null || return 1
+    [ "$("$program" compact)" = 'kept 1 of 2' ] || return 1
+    rm -rf packages/ui/dist .turbo/store.turb
+    "$program" build | grep -q '1 cached, 1 total' && [ "$("$program" compact)" = 'kept 1 of 1' ]
+}
+check 'what compaction keeps is found without the old file, and compacted back' compaction
+
+compaction_beside() {
+    one "$build"
+    "$program" build >/dev/null || return 1
+    "$program" lint >"$work/lint" 2>"$work/lint.err" &
+    local other=$!
+    sleep 0.3
+    ! "$program" compact >"$work/out" 2>"$work/err" || return 1
+    wait $other || return 1
+    says 'another run holds' && grep -qx 'turbo: the store failed' "$work/out" || return 1
+    "$program" build | grep -q '1 cached, 1 total' && [ "$("$program" compact)" = 'kept 2 of 2' ]
+}
+check 'a compaction beside a run changes nothing' compaction_beside
+
 nested() {
     one 'cd ../..; '"$program"' lint'
     timeout 20 "$program" build >"$work/out" 2>"$work/err"
