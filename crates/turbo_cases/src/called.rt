@@ -130,29 +130,61 @@ pub struct Cuttable {
     pub crash: Option<(u8, u64)>,
 }
 
+// What is seen behind a call: only borrowed here, so that no early end of it drops a store.
+fn seen_with(
+    alloc: Global,
+    given: &Given,
+    answer: &Answer,
+    left: (&FuseStore, Option<(u8, u64)>),
+    spare: (&FuseStore, Option<(u8, u64)>),
+) -> Result<Seen> {
+    let (store, crash) = left;
+    let left = left_of(alloc, store, crash)?;
+    let (store, crash) = spare;
+    let spare_left = left_of(alloc, store, crash)?;
+    seen_of(alloc, given, answer, left, spare_left)
+}
+
 /// Calls the program.
 pub fn call(alloc: Global, given: Given, store: Cuttable, spare: Cuttable) -> Result<Seen> {
     let mut given = given;
+    let (crash, spare_crash) = (store.crash, spare.crash);
     let (answer, left, spare_left) = answered(alloc, &mut given, store.store, spare.store).context(
         "a command runs",
     )?;
-    let left = left_of(alloc, &left, store.crash)?;
-    let spare_left = left_of(alloc, &spare_left, spare.crash)?;
-    seen_of(alloc, &given, &answer, left, spare_left)
+    seen_with(
+        alloc,
+        &given,
+        &answer,
+        (&left, crash),
+        (&spare_left, spare_crash),
+    )
+}
+
+// What is seen behind a call over a store of which nothing is looked at.
+fn seen_full(
+    alloc: Global,
+    given: &Given,
+    answer: &Answer,
+    spare: &FuseStore,
+    crash: Option<(u8, u64)>,
+) -> Result<Seen> {
+    let spare_left = left_of(alloc, spare, crash)?;
+    seen_of(
+        alloc,
+        given,
+        answer,
+        Bytes::from_vec(Vec::new(alloc)),
+        spare_left,
+    )
 }
 
 /// Calls the program over a store that is nearly full, of which nothing is seen.
 pub fn call_full(alloc: Global, given: Given, store: Vast, spare: Cuttable) -> Result<Seen> {
     let mut given = given;
-    let (answer, _store, spare_left) = answered(alloc, &mut given, store, spare.store).context(
+    let crash = spare.crash;
+    let (answer, _store, left) = answered(alloc, &mut given, store, spare.store).context(
         "a command runs",
     )?;
-    let spare_left = left_of(alloc, &spare_left, spare.crash)?;
-    seen_of(
-        alloc,
-        &given,
-        &answer,
-        Bytes::from_vec(Vec::new(alloc)),
-        spare_left,
-    )
+    seen_full(alloc, &given, &answer, &left, crash)
 }
