@@ -94,6 +94,56 @@ compaction_beside() {
 }
 check 'a compaction beside a run changes nothing' compaction_beside
 
+second_store() (
+    one "$build"
+    export TURBO_REMOTE_STORE=$work/cache/second.turb
+    "$program" build --cache=local:rw,remote:rw >/dev/null || return 1
+    cp "$work/cache/second.turb" "$work/before"
+    one "$build"
+    "$program" build --cache=local:rw,remote:r | grep -q '1 cached, 1 total' || return 1
+    cmp -s "$work/cache/second.turb" "$work/before" || return 1
+    printf xxxxxxxxxx >"$work/cache/second.turb"
+    ! "$program" build --cache=remote:rw >"$work/out" 2>"$work/err" || return 1
+    grep -qx 'turbo: the remote file is no store' "$work/out" && says "delete $work/cache/second.turb"
+)
+check 'another checkout finds the results of a second store, which is named where it is none' second_store
+
+# Two checkouts of one repository, whose runs begin at the same moment.
+shared_runs() (
+    one 'sleep 0.2; mkdir -p dist; echo built'
+    rm -rf "$work/other" && cp -R "$work/one" "$work/other"
+    export TURBO_SHARED_STORE=$work/cache/shared.turb
+    (cd "$work/other" && "$program" build --shared >"$work/other.out" 2>"$work/other.err") &
+    other=$!
+    "$program" build --shared >"$work/out" 2>"$work/err" || return 1
+    wait $other || return 1
+    rm -rf packages/ui/dist
+    "$program" build --shared | grep -q '1 cached, 1 total' || return 1
+    ! grep -q 'another run' "$work/err" "$work/other.err" || return 1
+    printf xxxxxxxxxx >"$work/cache/shared.turb"
+    ! "$program" build --shared >"$work/out" 2>"$work/err" || return 1
+    grep -qx 'turbo: the shared file is no store' "$work/out" && says "delete $work/cache/shared.turb"
+)
+check 'two runs at once over one shared file keep their results' shared_runs
+
+default_paths() {
+    one "$build"
+    "$program" build --cache=remote:rw >/dev/null && "$program" build --shared >/dev/null || return 1
+    [ -s .turbo/remote.turb ] && [ -s .turbo/shared.turb ] && [ ! -e .turbo/store.turb ]
+}
+check 'the second store and the shared file stand beside the store where nothing else is said' default_paths
+
+second_held() {
+    one "$build"
+    "$program" lint --cache=remote:rw >"$work/lint" 2>"$work/lint.err" &
+    local other=$!
+    sleep 0.3
+    "$program" build --cache=remote:rw >"$work/out" 2>"$work/err" || return 1
+    wait $other || return 1
+    says 'another run holds' && "$program" build --cache=remote:rw | grep -q '0 cached, 1 total'
+}
+check 'a run beside another one on a second store keeps no results there' second_held
+
 nested() {
     one 'cd ../..; '"$program"' lint'
     timeout 20 "$program" build >"$work/out" 2>"$work/err"

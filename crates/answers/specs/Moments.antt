@@ -13,13 +13,17 @@ pub record Held : Type 0 where
   pub free : ℕ
 
 -- the files, the starts and ends of commands so far, what the stores hold, and what was printed
-pub record Moment : Type 0 where
+pub record MomentOf (H : Type 0) : Type 0 where
   pub files : FileMap
   pub steps : List Step
-  pub held : Held
+  pub held : H
   pub printed : List ℕ
 
-abbrev pub moment_of : {B R : Type 0} → TreeState R → Runs B → Held → List ℕ → Moment
+-- where the stores of the call are one, as a run sees them
+abbrev pub Moment : Type 0
+Moment = MomentOf Held
+
+abbrev pub moment_of : {B R H : Type 0} → TreeState R → Runs B → H → List ℕ → MomentOf H
 moment_of tree runs held printed = record {
   files = tree.files;
   steps = runs.steps;

@@ -7,6 +7,7 @@ use Rattle.refusals.specs.Refusals.{line_of, refusal_text, device_fault_line}
 use Rattle.run_plan.specs.Answers.{Cause}
 use Rattle.run_plan.specs.Answers.Cause.{Device, Output, Memory}
 use Rattle.answers.specs.declared.answer.Answer.{Answer}
+use Rattle.answers.specs.Moments.{MomentOf}
 use Rattle.answers.specs.declared.answer.Answer.TheVariants.{Done, Refused, TreeFault, StoreFault}
 use Rattle.answers.specs.declared.answer.Answer.TheVariants.{StartFault, SinkFault, OutOfMemory}
 
@@ -45,6 +46,14 @@ abbrev pub StopsEarly : (Refusal → Type 0) → List ℕ → List ℕ → Cause
 StopsEarly Reason before after Device line = PrintsSome line before after
 StopsEarly Reason before after Output line = CutsRefusal Reason Output before after
 StopsEarly Reason before after Memory line = CutsRefusal Reason Memory before after
+
+-- Nothing was begun: files and steps are as before, and nothing was printed but the line of a
+-- fault, or of a refusal for such a reason.
+pub record StopsUnstarted {H : Type 0} (Reason : Refusal → Type 0) (old new : MomentOf H)
+    (cause : Cause) (line : List ℕ) : Type 0 where
+  pub files : new.files ≡ old.files
+  pub steps : new.steps ≡ old.steps
+  pub printed : StopsEarly Reason old.printed new.printed cause line
 
 -- an error as a result
 abbrev pub raised : Stop → Result (Unit {0}) Stop

@@ -15,7 +15,8 @@
 //!
 //! It refuses nothing. The cache has to be one that may be used (`whole`), and is one still after
 //! `Done`. What a run leaves of files, pairs and page is defined in `run_plan`; `specs/` says what
-//! is answered (`Steps`) and what is left where it was stopped (`Stops`).
+//! is answered (`Steps`), what a run begins with and is trusted in (`Openings`) and what is left
+//! where it was stopped (`Stops`).
 #![tactic(auto)]
 
 mod running;

@@ -145,8 +145,9 @@ fn run_dry<C: Cache, K: Sink>(alloc: Global, plan: &Plan, cache: &mut C, out: &m
     }
 }
 
-/// Runs the plan over a cache, or says what a run would do, and answers as the program does. The page is printed as it
-/// comes. After a fault its line is tried once, and after want of memory nothing more is printed.
+/// Runs the plan over a cache, or says what a run would do, and answers as the program does. The
+/// page is printed as it comes. After a fault its line is tried once, and after want of memory
+/// nothing more is printed.
 pub fn run_over<W: Spawner, C: Cache, K: Sink>(
     alloc: Global,
     is_dry: bool,

@@ -127,6 +127,22 @@ fn held_by_another(rt: HostRuntime) -> Result<(), Fail> {
     leave(&rt, folder)
 }
 
+// Whether each call on a device that is to be alone fails while another one holds the file.
+fn fails_beside(rt: &HostRuntime) -> Result<bool, StoreErr> {
+    let _first = OsStore::locked(rt, STORE_PATH, 0)?;
+    Ok(fails(rt.alloc(), &mut OsStore::alone(rt, STORE_PATH)))
+}
+
+// Where nobody holds the file, none fails.
+#[test]
+fn alone(rt: HostRuntime) -> Result<(), Fail> {
+    let folder = enter(&rt, "alone")?;
+    assert!(rt; fails_beside(&rt)?);
+    write_twice(rt.alloc(), &mut OsStore::alone(&rt, STORE_PATH))?;
+    assert!(rt; fs::read(&rt, PATH)?.as_slice() == b"abcdEFGH".as_slice());
+    leave(&rt, folder)
+}
+
 // The folders on the way to the file are made. The empty path is no file.
 #[test]
 fn at_any_path(rt: HostRuntime) -> Result<(), Fail> {

@@ -1,6 +1,4 @@
 mod Standing
 mod Leaving
-mod Ready
 mod Ending
-mod Finished
 mod Outcomes

@@ -30,15 +30,16 @@ use Rattle.answers.specs.Answers.{IfDone}
 use Rattle.answers.specs.Facts.{if_fault, within}
 use Rattle.answers.specs.Moments.{Moment}
 use Rattle.answers.specs.Stops.{IfFault}
+use Rattle.cache_runs.specs.Openings.{IsTrusted, opening_at}
 use Rattle.cache_runs.specs.Stops.{StopsOver, StopsDry}
+use Rattle.cache_runs.proofs.Finished.{done_as, done_both, done_under}
+use Rattle.cache_runs.proofs.Ready.{is_ready}
 use Rattle.file_runs.specs.Images.{IsOneOrAddedTo, IsDueBy}
-use Rattle.file_runs.specs.Outcomes.{IsTrusted, RanOver, RanDryOver, opening_at}
+use Rattle.file_runs.specs.Outcomes.{RanOver, RanDryOver}
 use Rattle.file_runs.specs.Standing.{HoldsAdded}
 use Rattle.file_runs.specs.Stops.{StopsLive, StopsDryOver}
 use Rattle.file_runs.specs.Turns.{held_in_turn}
 use Rattle.file_runs.proofs.Ending.{moved, held_first, holds_end, none_end, room_end, left_end}
-use Rattle.file_runs.proofs.Finished.{done_as, done_within, done_both}
-use Rattle.file_runs.proofs.Ready.{is_ready}
 
 no_some : {X : Type 0} {x : X} → None ≡ Some x → ⊥
 no_some e = cc
@@ -104,9 +105,9 @@ module _ {H D : Type 0} {G : Ghosts H D} {K : DeviceGhosts D} (file : H)
       → (Heard → IfDone answer (λ _. out ≡ printed ++ dry_page plan (state_of mid).pairs))
       → IfDone answer (RanDryOver plan Heard old now (G.content end))
   ran_dry Heard answer same files_are steps_are zero page =
-      done_as _ (RanDryOver plan Heard old now (G.content end)) answer
-      (λ status both. dry_record Heard status same files_are steps_are both.0 both.1)
-      (done_both answer _ _ zero (done_within answer Heard _ page))
+      done_both (λ status. status ≡ 0) _ (RanDryOver plan Heard old now (G.content end)) answer
+      (λ status none said. dry_record Heard status same files_are steps_are none said)
+      zero (done_under answer Heard _ page)
 
   pub stops_dry : (answer : Answer) → (state_of new).pairs ≡ (state_of mid).pairs
       → after ≡ files → done ≡ steps
@@ -149,7 +150,7 @@ module _ {H D : Type 0} {G : Ghosts H D} {K : DeviceGhosts D} (file : H)
               (state_of mid).pairs before (state_of new).pairs (before ++ added)
               (state_of new).room now.held.free pairs_are is room_is (by (ready trust));
         })
-        (done_within answer (IsReady (setting_of plan opening)) _ ran)
+        (done_under answer (IsReady (setting_of plan opening)) _ ran)
 
     pub stops_live : (Heard : Type 0) (answer : Answer)
         → (IsReady (setting_of plan opening) → IfFault answer (StopsOver plan opening after

@@ -10,8 +10,8 @@ use Rattle.record_log.specs.Frames.{IsSound}
 use Rattle.shared_runs.specs.declared.turn.Shared.{Ghosts}
 use Rattle.shared_runs.specs.Frames.{HoldsOneOrMore}
 use Rattle.answers.specs.Moments.{Moment}
+use Rattle.cache_runs.specs.Openings.{opening_at}
 use Rattle.file_runs.specs.Standing.{HoldsAdded}
-use Rattle.file_runs.specs.Outcomes.{opening_at}
 
 -- What a run may have put by these steps: nothing where it is dry, and else some first part of what
 -- is due by then, where so much room was left at last.

@@ -6,10 +6,10 @@ use Rattle.run_laws.specs.Effects.{Book}
 use Rattle.run_plan.specs.declared.plan.Plan.{Plan}
 use Rattle.run_plan.specs.Answers.{Cause}
 use Rattle.answers.specs.Moments.{Moment}
-use Rattle.answers.specs.Stops.{StopsEarly}
+use Rattle.answers.specs.Stops.{StopsUnstarted}
+use Rattle.cache_runs.specs.Openings.{IsTrusted, opening_at}
 use Rattle.cache_runs.specs.Stops.{StopsOver, StopsDry}
 use Rattle.file_runs.specs.Standing.{HoldsAdded}
-use Rattle.file_runs.specs.Outcomes.{IsTrusted, opening_at}
 
 -- A run of the plan that was opened over these pairs has stopped. What it put till then stands in
 -- the file behind them in its order, and where it is trusted, files, pairs, steps and page are as
@@ -40,6 +40,6 @@ StopsRun false book plan before Heard old new file cause line =
 abbrev pub StopsOpening : (Refusal → Type 0) → Bool → Book → Plan → Type 0 → Moment → Moment
     → List ℕ → Cause → List ℕ → Type 0
 StopsOpening Reason is_dry book plan Heard old new file cause line =
-    StopsEarly Reason old.printed new.printed cause line
+    StopsUnstarted Reason old new cause line
     ⊎ ((before : List Pair) × (old.held.pairs ≡ Some before)
     × StopsRun is_dry book plan before Heard old new file cause line)

@@ -26,8 +26,8 @@
 //! put d        a b c x d      the run sees a b c d
 //! ```
 //!
-//! What others append is told for the next turn alone. So no clause tells a pair of another run from
-//! one that this run appended beside those that it sees.
+//! What others append is told for the next turn alone. So no clause tells a pair of another run
+//! from one that this run appended beside those that it sees.
 //!
 //! `specs/` says how a run's pairs stand among those of others (`Standing`), what the file holds
 //! for who takes its next turn (`Turns`), what is left of a run that came to its end (`Outcomes`)

@@ -15,11 +15,12 @@
 //!
 //! Where a word is not UTF-8 a line on standard output says so, and the status is 1. Where memory
 //! is wanting a line on standard error says so, and the status is 1. On standard error there is
-//! advice besides where a word was refused, where something is not built, and where the store is
-//! to be deleted. The functions have no errors: each [`Outcome`] has an answer.
+//! advice besides where a word was refused, and where a store is to be deleted. The functions have
+//! no errors: each [`Outcome`] has an answer.
 #![tactic(auto)]
 
 mod advice;
+mod paths;
 mod status;
 mod system;
 

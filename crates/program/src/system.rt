@@ -1,13 +1,16 @@
 // The program over the devices of the system.
+ghost use Rattle.std.specs.Prelude.{◌≡◌, false};
 ghost use Rattle.spawn_dev.specs.Spawn.{IsIdle};
 
 use crate::advice::{advise, say_out_of_memory};
+use crate::paths::path_of;
 use crate::status::exit_status;
 use os_edge::{
-    OsSink, OsStore, OsWorld, STORE_PATH, WordErr, environment, open_streams,
-    warn_of_unread_config, words,
+    OsSink, OsStore, OsWorld, WordErr, environment, open_streams, warn_of_unread_config, words,
 };
+use os_shared::OsShared;
 use rel_path::Text;
+use shared_runs::Shared;
 use spawn_dev::Spawner;
 use std::alloc::Global;
 use std::env::Env;
@@ -18,15 +21,12 @@ use std::rt::Files;
 use std::time::Clock;
 use store_dev::StoreDevice;
 use tree_dev::Sink;
-use turbo_app::Answer;
+use turbo_app::{Answer, StoreFile};
 
 /// What the program asks of the runtime.
 pub trait System: Env + Files<File = File> + Processes + Clock + Print + Eprint + AllocGlobal {}
 
 impl<R: Env + Files<File = File> + Processes + Clock + Print + Eprint + AllocGlobal> System for R {}
-
-/// The file of the spare store.
-pub(crate) const SPARE_PATH: &str = ".turbo/spare.turb";
 
 // The word in front of an order to compact.
 const COMPACT: &str = "compact";
@@ -71,40 +71,88 @@ fn status_given<R: System>(rt: &R, alloc: Global, words: &[Text], env: &[(Text, 
 where
     <R::Started as OpenProcess>::Stdout: AsRawFd,
 {
-    let mut world = OsWorld::new(rt, alloc);
-    let mut out = OsSink::new(rt);
-    let store = store_at(rt, words, STORE_PATH);
-    let spare = store_at(rt, words, SPARE_PATH);
-    let (answer, status) = ended(alloc, words, env, &mut world, store, spare, &mut out);
-    advise(rt, words, &answer);
+    let (answer, status) = over_system(rt, alloc, words, env);
+    advise(rt, words, env, &answer);
     status
 }
 
-// A run goes on without its store while another one holds it, and a compaction must not.
-fn store_at<'r, R: System>(
-    rt: &'r R,
+// The call over all devices of the system.
+fn over_system<
+    R: Files<File = File> + Processes + Clock + Print + Eprint + AllocGlobal + Copy + Drop,
+>(rt: R, alloc: Global, words: &[Text], env: &[(Text, Text)]) -> (Answer, u8)
+where
+    <R::Started as OpenProcess>::Stdout: AsRawFd,
+{
+    over_files(rt, alloc, words, env, &mut OsWorld::new(rt, alloc))
+}
+
+// The call over the files of the stores and standard output.
+fn over_files<W: Spawner, R: Files<File = File> + Print + Eprint + AllocGlobal + Copy + Drop>(
+    rt: R,
+    alloc: Global,
     words: &[Text],
-    path: &'static str,
-) -> OsStore<'static, &'r R> {
+    env: &[(Text, Text)],
+    world: &mut W,
+) -> (Answer, u8)
+    requires { IsIdle (W.runs world.old) }
+{
+    let alone = is_compaction(words);
+    ended(
+        alloc,
+        words,
+        env,
+        world,
+        store_at(rt, alone, path_of(env, StoreFile::Store)),
+        store_at(rt, alone, path_of(env, StoreFile::Spare)),
+        OsStore::at(rt, path_of(env, StoreFile::Second)),
+        OsShared::at(rt, path_of(env, StoreFile::Shared)),
+        &mut OsSink::new(rt),
+    )
+}
+
+fn is_compaction(words: &[Text]) -> bool {
     match words.first() {
-        Some(word) if word.as_str() == COMPACT => OsStore::alone(rt, path),
-        _ => OsStore::at(rt, path),
+        Some(word) => word.as_str() == COMPACT,
+        None => false,
+    }
+}
+
+// A run goes on without its store while another one holds it, and a compaction must not.
+fn store_at<'p, R: Files<File = File> + Eprint + AllocGlobal>(
+    rt: R,
+    alone: bool,
+    path: &'p str,
+) -> OsStore<'p, R> {
+    if alone {
+        OsStore::alone(rt, path)
+    } else {
+        OsStore::at(rt, path)
     }
 }
 
 // The call without its clauses, which say nothing of the system's devices and would take the prover
 // minutes there.
-fn ended<W: Spawner, S: StoreDevice + Drop, P: StoreDevice + Drop, K: Sink>(
+fn ended<
+    W: Spawner,
+    S: StoreDevice + Drop,
+    P: StoreDevice + Drop,
+    R: StoreDevice + Drop,
+    H: Shared + Drop,
+    K: Sink,
+>(
     alloc: Global,
     words: &[Text],
     env: &[(Text, Text)],
     world: &mut W,
     store: S,
     spare: P,
+    second: R,
+    shared: H,
     out: &mut K,
 ) -> (Answer, u8)
-    requires { IsIdle (W.runs world.old) }
+    requires idle { IsIdle (W.runs world.old) }
+    requires turn { (H.turn shared).held ≡ false }
 {
-    let outcome = exit_status(alloc, words, env, world, store, spare, out);
+    let outcome = exit_status(alloc, words, env, world, store, spare, second, shared, out);
     (outcome.answer, outcome.status)
 }

@@ -111,10 +111,6 @@ pub enum Refusal {
     },
     /// The store has the last generation that there is.
     LastGeneration,
-    /// The words ask for what is not built yet; each such form has a number.
-    NotBuilt {
-        form: u8,
-    },
 }
 
 /// The file of a store.

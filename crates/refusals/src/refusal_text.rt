@@ -216,7 +216,6 @@ fn refusal_text(alloc: Global, refusal: &Refusal) -> Result<String, AllocError>
         Refusal::OutTaken { path } => with_path(alloc, "already there: ", path),
         Refusal::NoRoom { need, free } => no_room(alloc, *need, *free),
         Refusal::LastGeneration => behind(alloc, "last generation", ""),
-        Refusal::NotBuilt { form } => with_number(alloc, "not built: form ", u64::from(*form)),
     }
 }
 

@@ -1,9 +1,6 @@
-mod Finished
 mod Only
-mod NotBuilt
 mod Left
-mod Ready
-pub mod Current
-mod Unstarted
-mod Rested
 mod Found
+pub mod Causes
+mod Alone
+mod Using

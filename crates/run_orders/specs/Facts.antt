@@ -11,7 +11,13 @@ use Rattle.artifact_store.specs.Pairs.{stands_for}
 use Rattle.compact.specs.declared.side.Side.{Side}
 use Rattle.compact.specs.declared.side.Side.TheVariants.{First, Spare}
 use Rattle.compact.specs.Left.{IsReread}
-use Rattle.run_orders.specs.Images.{AddsTo, IsOneOfBoth, LeavesPairs, RereadsOther}
+use Rattle.shared_runs.specs.declared.turn.Shared as shared
+use Rattle.second_runs.specs.Images.{IsOneOfBoth, LeavesPairs}
+use Rattle.second_runs.proofs.Reading.{OnlyNow}
+use Rattle.run_orders.specs.Images.{AddsToShared, RereadsOther}
+use Rattle.run_orders.specs.Moments.{OrderMoment}
+use Rattle.run_orders.specs.declared.uses.Uses.{Uses}
+use Rattle.run_orders.specs.declared.uses.Uses.TheVariants as uses
 
 -- ---- short stores
 
@@ -33,13 +39,17 @@ long_read bytes fault bad = elim (cases_lt 9 (length bytes)) as (λ _. 9 < lengt
 
 -- ---- images
 
--- what the images are
-pub self_adds : (images : List ℕ → Type 0) (c : List ℕ) → images c → AddsTo images c
-self_adds images c now = (c, now, inl refl)
-
+-- those that there were
 pub self_both : (stores spares : List ℕ → Type 0) (f s : List ℕ) → stores f → spares s
     → IsOneOfBoth stores spares f s
 self_both stores spares f s now also = (f, s, now, also, refl)
+
+module _ {H D : Type 0} (G : shared.Ghosts H D) (file : H) (old : OrderMoment) where
+  pub self_shared : (used : Uses) (c : List ℕ) → G.images file c
+      → AddsToShared G file used old c
+  self_shared uses.Current c now = now
+  self_shared uses.Second c now = now
+  self_shared uses.Shared c now = inl (inl (c, now, refl))
 
 -- ---- a device that was left alone
 
@@ -50,21 +60,6 @@ pub unchanged : {D : Type 0} (moment : D → ℕ) (since : D → ℕ → List �
     → LeavesOnly moment since device device P
 unchanged moment since images P device only here =
     started moment since device P (λ c left. here c (only c left))
-
--- since this moment a crash leaves what it may leave now
-abbrev pub OnlyNow : {D : Type 0} → Ghosts D → D → Type 0
-OnlyNow G device = (c : List ℕ) → G.images_since device (G.moment device) c → G.images device c
-
-module _ {D : Type 0} (G : Ghosts D) (device : D) (only : OnlyNow G device) where
-  pub alone_adds : LeavesOnly G.moment G.images_since device device (AddsTo (G.images device))
-  alone_adds = unchanged G.moment G.images_since G.images _ device only
-      (self_adds (G.images device))
-
-  pub alone_reread : IsReread G device device
-  alone_reread = record {
-    images = unchanged G.moment G.images_since G.images _ device only (λ c now. (c, now, refl));
-    same = λ long. refl;
-  }
 
 -- two that were left alone
 pub alone_pairs : {S P : Type 0} (G : Ghosts S) (H : Ghosts P) (store : S) (spare : P)

@@ -1,6 +1,9 @@
+pub mod Uses
+pub mod Moments
 pub mod Asking
 pub mod Outcomes
 pub mod Steps
 pub mod Stops
 pub mod Images
+pub mod Causes
 pub mod Facts

@@ -1,9 +1,15 @@
-//! Orders to run, over devices: the plan that is asked for, and its run over the current one of
-//! two stores.
+//! Orders to run, over devices: the plan that is asked for, and its run over the stores that the
+//! order uses.
 //!
-//! The two are the store and the spare one into which it is compacted. The one with the greater
-//! generation is current, and the store where they are equal: a run looks results up in it, and
-//! puts its own there. The other one is at most opened, and has to be a store as well.
+//! Where it says nothing else, those are the store and the spare one into which it is compacted.
+//! The one with the greater generation is current, and the store where they are equal: a run looks
+//! results up in it, and puts its own there. The other one is at most opened, and has to be a store
+//! as well.
+//!
+//! With an access to the second store (`--cache`), that is read or put into beside the current one,
+//! as `second_runs` says it; with `--shared` the store of the run is the shared file, as
+//! `file_runs` says it, and no other is opened. A device that the order does not use is handed back
+//! as it was.
 //!
 //! In a repository without a `turbo.json`, whose only package `a` has the script `build`,
 //! `echo hi`, [`run_order`] prints for the order `run build` over two empty stores
@@ -16,15 +22,14 @@
 //! Cached:    0 cached, 1 total
 //! ```
 //!
-//! and answers `Done { status: 0 }` with both devices, of which the first holds the result. The
+//! and answers `Done { status: 0 }` with the four devices, of which the first holds the result. The
 //! digits are the first 16 of the SHA-256 of the task's key, in hexadecimal.
 //!
-//! What is not built is refused before anything is read: `NotBuilt` with [`CACHE_FORM`], 13, for a
-//! `--cache` other than `local:rw`, and else with [`SHARED_FORM`], 14, for `--shared`. Then come
-//! the refusals of the repository and of the plan, then those of the store, and then those of the
-//! spare one: `NotAStore`, and `Damaged` with the byte of the file, counted from 0, at which the
-//! broken frame begins. `TreeFault`, `StoreFault` (of either store), `StartFault`, `SinkFault` and
-//! `OutOfMemory` say what failed. Both devices are handed back, whatever is answered.
+//! The refusals of the repository and of the plan come first, then those of the store, of the spare
+//! one and of the second one, or that of the shared file: `NotAStore`, and `Damaged` with the byte
+//! of the file, counted from 0, at which the broken frame begins. `TreeFault`, `StoreFault` (of any
+//! of the stores), `StartFault`, `SinkFault` and `OutOfMemory` say what failed. All devices are
+//! handed back, whatever is answered.
 //!
 //! `specs/` says what an order asks for and why it is refused (`Asking`), what a call leaves that
 //! came to its end (`Outcomes`) or was stopped (`Stops`), and what a crash leaves of the stores
@@ -35,7 +40,8 @@ mod asking;
 mod orders;
 mod over_current;
 mod over_store;
-mod unbuilt;
+mod planned;
+mod uses;
 
 pub use orders::run_order;
-pub use unbuilt::{CACHE_FORM, SHARED_FORM};
+pub use uses::{Uses, uses_of};

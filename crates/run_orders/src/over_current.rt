@@ -1,5 +1,5 @@
 // A run of a plan over the current one of two stores.
-ghost use Rattle.std.specs.Prelude.{◌≡◌, ◌+◌, ◌++◌};
+ghost use Rattle.std.specs.Prelude.{◌≡◌, ◌+◌, ◌++◌, true};
 ghost use Rattle.store_dev.specs.Device.{LeavesOnly, Only};
 ghost use Rattle.spawn_dev.specs.Spawn.{IsIdle};
 ghost use Rattle.refusals.specs.Refusals.{line_of, refusal_text};
@@ -11,13 +11,8 @@ ghost use Rattle.run_plan.specs.Plans.{IsValidPlan};
 ghost use Rattle.answers.specs.Answers.{IfDone, IfRefused, HasCauseIn, counts_at};
 ghost use Rattle.answers.specs.Stops.{IfFault};
 ghost use Rattle.store_answers.specs.Refused.{IsNoStores};
-ghost use Rattle.run_orders.specs.Images.{
-  AddsTo,
-  IsLeftByPlan,
-  IsTrustedPlan,
-  LeavesPairs,
-  RereadsOther,
-};
+ghost use Rattle.second_runs.specs.Images.{AddsTo, LeavesPairs};
+ghost use Rattle.run_orders.specs.Images.{IsLeftByPlan, IsTrustedPlan, RereadsOther};
 ghost use Rattle.run_orders.specs.Outcomes.{RanAs};
 ghost use Rattle.run_orders.specs.Stops.{StopsPlan};
 ghost use Rattle.store_answers.specs.Stores.{at_moment, stores_of};
@@ -85,9 +80,9 @@ pub(crate) fn run_current<W: Spawner, S: StoreDevice, P: StoreDevice, K: Sink>(
     ensures elsewhere { W.tells
         → SameElsewhere plan.now (W.state world.old).files (W.state world.new).files }
     ensures sound { S.tells
-        → LeavesOnly S.moment S.images_since store result.1 (AddsTo (S.images store)) }
+        → LeavesOnly S.moment S.images_since store result.1 (AddsTo true (S.images store)) }
     ensures spare_sound { P.tells
-        → LeavesOnly P.moment P.images_since spare result.2 (AddsTo (P.images spare)) }
+        → LeavesOnly P.moment P.images_since spare result.2 (AddsTo true (P.images spare)) }
     ensures other { S.tells → P.tells → RereadsOther S.StoreDevice P.StoreDevice
         (current_of (S.content store) (P.content spare)) store result.1 spare result.2 }
     ensures left { W.tells → S.tells → P.tells

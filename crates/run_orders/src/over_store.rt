@@ -1,5 +1,5 @@
 // A run of a plan over the device of a store.
-ghost use Rattle.std.specs.Prelude.{◌≡◌, ◌++◌, ◌<◌, ℕ, List, length, Some, IsTrue};
+ghost use Rattle.std.specs.Prelude.{◌≡◌, ◌++◌, true, Some, IsTrue};
 ghost use Rattle.store_dev.specs.Device.{LeavesOnly, Only};
 ghost use Rattle.spawn_dev.specs.Spawn.{IsIdle};
 ghost use Rattle.refusals.specs.Refusals.{line_of, refusal_text};
@@ -11,20 +11,17 @@ ghost use Rattle.run_plan.specs.Plans.{IsValidPlan};
 ghost use Rattle.runner.specs.Answers.{opening_of};
 ghost use Rattle.task_devices.specs.Keeping.{IsFurther};
 ghost use Rattle.answers.specs.Answers.{IfDone, IfRefused, HasCauseIn, counts_at};
-ghost use Rattle.run_orders.specs.Images.{
-  AddsTo,
-  IsLeftByRun,
-  IsLeftInStore,
-  IsTrustedPlan,
-  IsTrustedRun,
-};
+ghost use Rattle.second_runs.specs.Images.{AddsTo};
+ghost use Rattle.run_orders.specs.Images.{IsLeftByRun, IsLeftInStore, IsTrustedPlan};
 ghost use Rattle.run_orders.specs.Outcomes.{RanAs};
 ghost use Rattle.compact.specs.Current.{generation_in};
 ghost use Rattle.answers.specs.Moments.{Held, moment_of};
 ghost use Rattle.store_answers.specs.Refused.{IsNoStore};
 ghost use Rattle.store_answers.specs.Stores.{held_by};
 ghost use Rattle.answers.specs.Stops.{IfFault};
-ghost use Rattle.run_orders.specs.Stops.{StopsRun, StopsPlan};
+ghost use Rattle.cache_runs.specs.Openings.{IsTrustedRun};
+ghost use Rattle.cache_runs.specs.Stops.{StopsRun};
+ghost use Rattle.run_orders.specs.Stops.{StopsPlan};
 
 use answers::Answer;
 use artifact_store::Store;
@@ -142,7 +139,7 @@ pub(crate) fn run_plan<W: Spawner, S: StoreDevice, K: Sink>(
     ensures elsewhere { W.tells
         → SameElsewhere plan.now (W.state world.old).files (W.state world.new).files }
     ensures sound { S.tells
-        → LeavesOnly S.moment S.images_since store result.1 (AddsTo (S.images store)) }
+        → LeavesOnly S.moment S.images_since store result.1 (AddsTo true (S.images store)) }
     ensures left { W.tells → S.tells
         → IsTrustedPlan is_dry (W.effect (W.runs world.old).book) plan.now
         (moment_of (W.state world.old) (W.runs world.old) (held_by (S.content store))
@@ -153,7 +150,8 @@ pub(crate) fn run_plan<W: Spawner, S: StoreDevice, K: Sink>(
         (K.written out.old))
         (W.runs world.new).steps (generation_in (S.content store)) (S.images store)) }
     ensures cause { HasCauseIn
-        (counts_at (W.state world.old) (W.runs world.old) (S.store_faults store) (K.faults out.old))
+        (counts_at (W.state world.old) (W.runs world.old) (S.store_faults store)
+        (K.faults out.old))
         (counts_at (W.state world.new) (W.runs world.new) (S.store_faults result.1)
         (K.faults out.new)) result.0 }
 {

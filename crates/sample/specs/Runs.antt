@@ -21,7 +21,7 @@ use Rattle.run_orders.specs.Stops.{StoppedRun}
 use Rattle.sample_repository.specs.Changes.{changed_at}
 use Rattle.sample_repository.specs.Repository.{sample_files, sample_rules, source_path}
 use Rattle.sample.specs.RunLines.{size_line, run_line}
-use Rattle.sample.specs.States.{State, moment_in}
+use Rattle.sample.specs.States.{State, files_in, moment_in}
 
 -- the local store alone
 abbrev pub local_alone : Access
@@ -83,10 +83,9 @@ started_between old new = length (starts_in new.steps) - length (starts_in old.s
 pub record Runs (rules : List Rule) (old new : State) (answer : Answer) : Type 0 where
   pub ran : IfDone answer
       (RanOrder (effect_of rules) build_order [] (Unit {0}) (moment_in old) (moment_in new))
-  pub refused : IfRefused answer (IsRefusedRunOrder build_order [] old.files old.stores)
+  pub refused : IfRefused answer (IsRefusedRunOrder build_order [] old.files (files_in old))
   pub stopped : IfFault answer
-      (StoppedRun (IsRefusedRunOrder build_order [] old.files old.stores) build_order
-      (effect_of rules) [] (Unit {0}) (moment_in old) (moment_in new))
+      (StoppedRun build_order (effect_of rules) [] (Unit {0}) (moment_in old) (moment_in new))
 
 -- the bytes of a store stay, but at most nine may become an empty store
 abbrev pub IsKept : List ℕ → List ℕ → Type 0

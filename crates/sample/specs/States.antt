@@ -1,5 +1,5 @@
 -- What stands between two runs: in the definitions, and in the devices in memory.
-use Rattle.std.specs.Prelude.{ℕ, List}
+use Rattle.std.specs.Prelude.{ℕ, List, []}
 use Rattle.rel_path.specs.Files.{FileMap}
 use Rattle.tree_dev.specs.declared.sink.MemSink.{MemSink}
 use Rattle.store_dev.specs.MemStore.{bytes_of}
@@ -7,8 +7,8 @@ use Rattle.store_dev.specs.declared.memory.MemStore.{MemStore}
 use Rattle.spawn_dev.specs.MemWorld.{state_of, runs_of}
 use Rattle.spawn_dev.specs.declared.command.Step.{Step}
 use Rattle.spawn_dev.specs.declared.world.MemWorld.{MemWorld}
-use Rattle.answers.specs.Moments.{Moment}
-use Rattle.store_answers.specs.Stores.{Stores, stores_of, held_in}
+use Rattle.store_answers.specs.Stores.{Stores, stores_of}
+use Rattle.run_orders.specs.Moments.{OrderMoment, StoreFiles}
 
 -- the files, the starts and ends of commands so far, the bytes of the stores, what the runs
 -- printed, and the lines that tell of them
@@ -19,12 +19,16 @@ pub record State : Type 0 where
   pub printed : List ℕ
   pub lines : List ℕ
 
+-- the stores of a run: these two, an empty second one, and an empty shared file
+abbrev pub files_in : State → StoreFiles
+files_in state = record { local = state.stores; second = []; shared = []; coming = [] }
+
 -- what a run sees of it
-abbrev pub moment_in : State → Moment
+abbrev pub moment_in : State → OrderMoment
 moment_in state = record {
   files = state.files;
   steps = state.steps;
-  held = held_in state.stores;
+  held = files_in state;
   printed = state.printed;
 }
 

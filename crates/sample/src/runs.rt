@@ -1,11 +1,12 @@
 // The runs.
-ghost use Rattle.std.specs.Prelude.{◌≡◌, ◌≢◌, ℕ, List, [], Ok, IfOk, IsOkUnless};
+ghost use Rattle.std.specs.Prelude.{◌≡◌, ◌≢◌, ℕ, List, [], false, Ok, IfOk, IsOkUnless};
 ghost use Rattle.std.specs.Prelude.{IsSome, IfSome, IfNone, string_bytes};
 ghost use Rattle.cli_words.specs.Orders.{order_of};
 ghost use Rattle.cli_words.specs.declared.order.Order.TheVariants.{Run};
 ghost use Rattle.store_dev.specs.MemStore.{bytes_of};
 ghost use Rattle.spawn_dev.specs.MemWorld.{runs_of};
 ghost use Rattle.spawn_dev.specs.Spawn.{IsIdle};
+ghost use Rattle.shared_runs.specs.MemShared.{turn_of};
 ghost use Rattle.answers.specs.Answers.{IfRefused, exit_status};
 ghost use Rattle.sample_repository.specs.Repository.{IsSize};
 ghost use Rattle.sample.specs.Lines.{text_in};
@@ -30,6 +31,7 @@ use page::PageErr;
 use rel_path::{Bytes, Text, Texts};
 use run_orders::run_order;
 use sample_repository::{changed_world, sample_world};
+use shared_runs::MemShared;
 use spawn_dev::MemWorld;
 use std::alloc::Global;
 use store_dev::MemStore;
@@ -70,7 +72,8 @@ pub(crate) fn build_order(alloc: Global) -> Result<RunOrder, PageErr>
     })
 }
 
-// A run without an environment. Of the clauses of `run_order` a sample needs these.
+// A run without an environment, over these two stores alone. Of the clauses of `run_order` a sample
+// needs these.
 fn run_once(
     alloc: Global,
     order: &RunOrder,
@@ -90,7 +93,18 @@ fn run_once(
     ensures idle { IsIdle (runs_of world.new) }
     ensures book { (runs_of world.new).book ≡ (runs_of world.old).book }
 {
-    run_order(alloc, order, &[], world, store, spare, out)
+    let (answer, store, spare, _second, _shared) = run_order(
+        alloc,
+        order,
+        &[],
+        world,
+        store,
+        spare,
+        no_store(alloc),
+        no_file(alloc),
+        out,
+    );
+    (answer, store, spare)
 }
 
 /// The exit status of a run. After want of memory there is none.
@@ -128,6 +142,18 @@ fn run_status(
         None => Err(PageErr::OutOfMemory),
         Some(status) => Ok((status, store, spare)),
     }
+}
+
+/// An empty file that no other run uses, no call of which fails.
+fn no_file(alloc: Global) -> MemShared
+    ensures { (turn_of result).held ≡ false }
+{
+    MemShared::new(
+        alloc,
+        Bytes::from_vec(Vec::new(alloc)),
+        Vec::new(alloc),
+        Vec::new(alloc),
+    )
 }
 
 /// An empty store, no call of which fails.

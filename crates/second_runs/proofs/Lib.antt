@@ -1,12 +1,9 @@
-mod Finished
-mod Ready
 mod Behind
 mod Relaying
-mod Handing
-mod Causes
-mod Reading
-mod Currents
-mod Only
-mod Stopping
-mod Pairs
+pub mod Handing
+pub mod Reading
+pub mod Currents
+pub mod Only
+pub mod Stopping
+pub mod Pairs
 mod Truth

@@ -5,7 +5,7 @@ use Rattle.refusals.specs.declared.refusal.Refusal.{Refusal}
 use Rattle.run_laws.specs.Effects.{Book}
 use Rattle.run_plan.specs.declared.plan.Plan.{Plan}
 use Rattle.run_plan.specs.Answers.{Cause}
-use Rattle.answers.specs.Facts.{early_as}
+use Rattle.cache_runs.proofs.Stopped.{unstarted_as}
 use Rattle.second_runs.specs.Moments.{Moment}
 use Rattle.second_runs.specs.Stops.{StopsSecond}
 
@@ -14,6 +14,6 @@ pub stops_as : (R Q : Refusal → Type 0) → ((reason : Refusal) → R reason �
     (old new : Moment) (cause : Cause) (line : List ℕ)
     → StopsSecond R is_dry access book plan Heard old new cause line
     → StopsSecond Q is_dry access book plan Heard old new cause line
-stops_as R Q more is_dry access book plan Heard old new cause line (inl early) =
-    inl (early_as R Q more old.printed new.printed cause line early)
+stops_as R Q more is_dry access book plan Heard old new cause line (inl none) =
+    inl (unstarted_as R Q more old new cause line none)
 stops_as R Q more is_dry access book plan Heard old new cause line (inr ran) = inr ran

@@ -1,7 +1,5 @@
 -- What a crash leaves of the stores at any moment of a run over two of them.
-use Rattle.std.specs.Prelude.{◌≡◌, ◌⊎◌, ℕ, Bool, true, false, List, ◌++◌}
-use Rattle.std.specs.Prelude.{Option, Some, ⊤}
-use Rattle.listing.specs.KeyText.{Fits}
+use Rattle.std.specs.Prelude.{◌≡◌, ◌⊎◌, ℕ, Bool, true, false, List, ◌++◌, Option, Some}
 use Rattle.store_dev.specs.declared.device.StoreDevice.{Ghosts}
 use Rattle.cache_api.specs.Pairs.{Pair}
 use Rattle.record_log.specs.Frames.{reading, ReadsAsOneOf}
@@ -11,13 +9,12 @@ use Rattle.spawn_dev.specs.declared.command.Step.{Step}
 use Rattle.cli_words.specs.declared.order.Access.{Access}
 use Rattle.relay_store.specs.Parts.{into}
 use Rattle.run_laws.specs.Effects.{Book}
-use Rattle.run_laws.specs.Keys.{IsStorable}
-use Rattle.run_laws.specs.Pairs.{IsGood}
 use Rattle.run_plan.specs.declared.plan.Plan.{Plan}
 use Rattle.run_plan.specs.Answers.{IsSafe}
 use Rattle.run_plan.specs.Openings.{Opening}
+use Rattle.cache_runs.specs.Openings.{IsTrustedRun, opening_at}
 use Rattle.second_runs.specs.Moments.{Moment}
-use Rattle.second_runs.specs.Outcomes.{AreStores, pairs_of, opening_at}
+use Rattle.second_runs.specs.Outcomes.{AreStores, pairs_of}
 
 -- ---- pairs are only added, and only where the store is put into
 
@@ -37,18 +34,6 @@ abbrev pub AddsTo : Bool → (List ℕ → Type 0) → List ℕ → Type 0
 AddsTo puts images c = (d : List ℕ) × images d × AddsBehind puts d c
 
 -- ---- what a run of a plan is trusted in
-
--- commands write what a store can keep, no text is of 2^32 bytes or more, and the pairs tell the
--- truth
-pub record IsTrusted (book : Book) (plan : Plan) (pairs : List Pair) : Type 0 where
-  pub storable : IsStorable plan.mode book plan.listing
-  pub fits : Fits plan.listing
-  pub good : IsGood book pairs
-
--- nothing is asked of a dry run
-abbrev pub IsTrustedRun : Bool → Book → Plan → List Pair → Type 0
-IsTrustedRun true book plan pairs = ⊤
-IsTrustedRun false book plan pairs = IsTrusted book plan pairs
 
 -- the pairs are those of both stores
 abbrev pub IsTrustedSecond : Bool → Access → Book → Plan → Moment → Type 0

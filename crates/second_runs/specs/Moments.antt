@@ -1,11 +1,9 @@
 -- What the devices of a run over a local store and a second one hold at a moment of it.
 use Rattle.std.specs.Prelude.{ℕ, List, [], Some, if◌then◌else◌}
-use Rattle.rel_path.specs.Files.{FileMap}
 use Rattle.tree_dev.specs.Tree.{TreeState}
-use Rattle.spawn_dev.specs.declared.command.Step.{Step}
 use Rattle.spawn_dev.specs.Spawn.{Runs}
 use Rattle.cli_words.specs.declared.order.Access.{Access}
-use Rattle.answers.specs.Moments.{Held}
+use Rattle.answers.specs.Moments.{Held, MomentOf, moment_of}
 use Rattle.store_answers.specs.Stores.{Stores, stores_of, held_in, held_by}
 
 -- what each of the two stores holds
@@ -25,19 +23,8 @@ abbrev pub local_in : Access → Stores → Held
 local_in access stores = if access.local_reads then held_in stores else nothing
 
 -- the files, the starts and ends of commands so far, what both stores hold, and what was printed
-pub record Moment : Type 0 where
-  pub files : FileMap
-  pub steps : List Step
-  pub held : Both
-  pub printed : List ℕ
-
-abbrev pub moment_of : {B T : Type 0} → TreeState T → Runs B → Both → List ℕ → Moment
-moment_of tree runs held printed = record {
-  files = tree.files;
-  steps = runs.steps;
-  held = held;
-  printed = printed;
-}
+abbrev pub Moment : Type 0
+Moment = MomentOf Both
 
 -- ---- what the devices hold
 

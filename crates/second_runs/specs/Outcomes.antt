@@ -1,18 +1,15 @@
 -- What a run over two stores leaves that came to its end.
 use Rattle.std.specs.Prelude.{◌≡◌, ℕ, Bool, true, false, List, ◌++◌, Some}
-use Rattle.listing.specs.KeyText.{Fits}
 use Rattle.cache_api.specs.Pairs.{Pair}
 use Rattle.cli_words.specs.declared.order.Access.{Access}
 use Rattle.relay_store.specs.Agree.{firsts}
 use Rattle.relay_store.specs.Parts.{into}
 use Rattle.relay_store.specs.Relays.{room_by}
 use Rattle.run_laws.specs.Effects.{Book}
-use Rattle.run_laws.specs.Keys.{IsStorable}
-use Rattle.run_laws.specs.Pairs.{IsGood}
 use Rattle.run_plan.specs.declared.plan.Plan.{Plan}
 use Rattle.run_plan.specs.Answers.{Ran}
 use Rattle.run_plan.specs.DryPages.{dry_page}
-use Rattle.run_plan.specs.Openings.{Opening}
+use Rattle.cache_runs.specs.Openings.{IsTrusted, opening_at}
 use Rattle.second_runs.specs.Moments.{Both, Moment}
 
 -- both are stores, with these pairs
@@ -26,15 +23,6 @@ pub record AreStores (held : Both) : Type 0 where
 -- is put into, and else those of the second one: what stands last is looked up first.
 abbrev pub pairs_of : {held : Both} → Access → AreStores held → List Pair
 pairs_of access both = firsts access.local_puts both.local both.second
-
--- the opening of a run at a moment, over these pairs
-abbrev pub opening_at : Book → Moment → List Pair → Opening
-opening_at book old pairs = record {
-  book = book;
-  files = old.files;
-  pairs = pairs;
-  steps = old.steps;
-}
 
 -- A run of the plan over the pairs that both stores had. Where commands do what the book says of
 -- what they see, and write no more than a store can keep, where no text is of 2^32 bytes or more,
@@ -51,8 +39,7 @@ pub record RanPlan (access : Access) (book : Book) (plan : Plan) (Heard : Type 0
   pub room : ℕ
   pub room_is : room ≡ room_by access.local_puts access.second_puts
       new.held.local.free new.held.second.free
-  pub ran : IsStorable plan.mode book plan.listing → Fits plan.listing
-      → IsGood book (pairs_of access both)
+  pub ran : IsTrusted book plan (pairs_of access both)
       → Ran plan (opening_at book old (pairs_of access both)) new.files
       (pairs_of access both ++ added) room new.steps Heard old.printed new.printed status
 

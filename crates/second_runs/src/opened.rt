@@ -10,13 +10,15 @@ ghost use Rattle.run_plan.specs.Answers.{SameElsewhere};
 ghost use Rattle.run_plan.specs.Openings.{HoldsInputs};
 ghost use Rattle.run_plan.specs.Plans.{IsValidPlan};
 ghost use Rattle.answers.specs.Answers.{IfDone, IfRefused, HasCauseIn, counts_at};
+ghost use Rattle.answers.specs.Moments.{moment_of};
 ghost use Rattle.answers.specs.Stops.{IfFault};
+ghost use Rattle.cache_runs.specs.Openings.{IsTrustedRun};
+ghost use Rattle.cache_runs.specs.Stops.{StopsRun};
 ghost use Rattle.store_answers.specs.Stores.{held_by};
-ghost use Rattle.second_runs.specs.Images.{IsBehind, IsLeftBy, IsTrustedRun};
-ghost use Rattle.second_runs.specs.Moments.{Both, both_of, moment_of};
+ghost use Rattle.second_runs.specs.Images.{IsBehind, IsLeftBy};
+ghost use Rattle.second_runs.specs.Moments.{Both, both_of};
 ghost use Rattle.second_runs.specs.Opened.{IsDeviceIn, held_of};
 ghost use Rattle.second_runs.specs.Outcomes.{RanSecond};
-ghost use Rattle.second_runs.specs.Stops.{StopsRun};
 
 use answers::Answer;
 use artifact_store::Store;

@@ -12,7 +12,7 @@ ghost use Rattle.run_plan.specs.Answers.{SameElsewhere};
 ghost use Rattle.run_plan.specs.Openings.{HoldsInputs};
 ghost use Rattle.run_plan.specs.Plans.{IsValidPlan};
 ghost use Rattle.answers.specs.Answers.{IfDone, IfRefused, HasCauseIn, counts_at};
-ghost use Rattle.answers.specs.Moments.{Held};
+ghost use Rattle.answers.specs.Moments.{Held, moment_of};
 ghost use Rattle.answers.specs.Stops.{IfFault};
 ghost use Rattle.store_answers.specs.Refused.{IsNoStore};
 ghost use Rattle.store_answers.specs.Stores.{held_by};
@@ -24,7 +24,7 @@ ghost use Rattle.second_runs.specs.Images.{
   IsLeftOfLocal,
   IsTrustedSecond,
 };
-ghost use Rattle.second_runs.specs.Moments.{Both, both_of, moment_of};
+ghost use Rattle.second_runs.specs.Moments.{Both, both_of};
 ghost use Rattle.second_runs.specs.Opened.{StaysOr, held_of};
 ghost use Rattle.second_runs.specs.Outcomes.{RanSecond};
 ghost use Rattle.second_runs.specs.Refused.{IsNoneBehind};

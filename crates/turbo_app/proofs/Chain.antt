@@ -1,5 +1,6 @@
 -- In a chain of two stores each that began with empty ones all pairs tell the truth.
-use Rattle.std.proofs.Common.{◌≡◌, ◌≤◌, inl, inr, ℕ, List, [], ◌∷◌, ◌++◌, length, Some, sym, ◌∙◌, ap, subst}
+use Rattle.std.proofs.Common.{◌≡◌, ◌≤◌, inl, inr, ℕ, List, [], ◌∷◌, ◌++◌, length, Some}
+use Rattle.std.proofs.Common.{sym, ◌∙◌, ap, subst}
 use Rattle.std.specs.List.{AllByRecursion}
 use Rattle.std.proofs.lemmas.List.{append-nil, append_assoc}
 use Rattle.cache_api.specs.Pairs.{Pair}
@@ -36,14 +37,23 @@ module _ (law : DueLaw) (book : Book) where
       subst (λ (l : List Pair). IsGood book l) (append_assoc before (pair ∷ []) added)
       (adds (before ++ pair ∷ []) added (law book before pair good due.0) due.1)
 
+  -- the pairs that were are those that stood there, which tell the truth
+  good_was : (before : Stores) (pairs was : List Pair) → pairs_in before ≡ Some pairs
+      → pairs_in before ≡ Some was → IsGood book pairs → IsGood book was
+  good_was before pairs was is also good =
+      subst (λ (l : List Pair). IsGood book l) (same_pairs (sym is ∙ also)) good
+
   -- from one on
   pub good_from : (before : Stores) (pairs : List Pair) → pairs_in before ≡ Some pairs
       → IsGood book pairs → (later : List Stores) → IsChain book before later
       → AllByRecursion (HasGoodPairs book) later
   good_from before pairs is good [] chain = tt
   good_from before pairs is good (stores ∷ later) (inl x, chain) =
-      let now = adds x.pairs x.added (subst (λ (l : List Pair). IsGood book l) (same_pairs (sym is ∙ x.was)) good) x.due in
+      let then = good_was before pairs x.pairs is x.was good in
+      let now = adds x.pairs x.added then x.due in
       ((x.pairs ++ x.added, x.is, now), good_from stores (x.pairs ++ x.added) x.is now later chain)
   good_from before pairs is good (stores ∷ later) (inr x, chain) =
-      let now = good_chosen book x.pairs x.keep (subst (λ (l : List Pair). IsGood book l) (same_pairs (sym is ∙ x.was)) good) in
-      ((chosen x.pairs x.keep, x.is, now), good_from stores (chosen x.pairs x.keep) x.is now later chain)
+      let then = good_was before pairs x.pairs is x.was good in
+      let now = good_chosen book x.pairs x.keep then in
+      let kept = chosen x.pairs x.keep in
+      ((kept, x.is, now), good_from stores kept x.is now later chain)

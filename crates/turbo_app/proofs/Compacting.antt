@@ -12,9 +12,9 @@ use Rattle.compact.specs.Left.{IsEither}
 use Rattle.compact.proofs.Telling.{frames_same, stands_itself}
 use Rattle.store_answers.specs.Facts.{both_hold}
 use Rattle.store_answers.specs.Stores.{stores_of, held_in}
-use Rattle.run_orders.specs.Facts.{OnlyNow}
-use Rattle.run_orders.specs.Images.{IsOneOfBoth}
-use Rattle.run_orders.proofs.Current.{both_read}
+use Rattle.second_runs.specs.Images.{IsOneOfBoth}
+use Rattle.second_runs.proofs.Pairs.{both_read}
+use Rattle.second_runs.proofs.Reading.{OnlyNow}
 use Rattle.compact_orders.specs.Asking.{current_pairs, kept_pairs}
 use Rattle.compact_orders.specs.Left.{AreReread, LeavesCompact, PassesRest, LastsCompacted}
 use Rattle.turbo_app.specs.Images.{IsChosenOfBoth, LeavesAtOnce}

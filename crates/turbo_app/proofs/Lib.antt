@@ -1,4 +1,5 @@
 mod Alone
+mod Causing
 mod Chain
 mod Compacting
 mod Truth

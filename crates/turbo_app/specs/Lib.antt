@@ -3,4 +3,5 @@ pub mod Samples
 pub mod Outcomes
 pub mod Stops
 pub mod Images
+pub mod Causes
 pub mod Steps

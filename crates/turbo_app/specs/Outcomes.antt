@@ -11,66 +11,66 @@ use Rattle.refusals.specs.declared.refusal.Refusal.TheVariants as refusal
 use Rattle.run_laws.specs.Effects.{Book}
 use Rattle.answers.specs.declared.answer.Answer.{Answer}
 use Rattle.answers.specs.Answers.{IfDone, IfRefused}
-use Rattle.answers.specs.Moments.{Moment}
+use Rattle.run_orders.specs.Moments.{OrderMoment}
 use Rattle.run_orders.specs.Outcomes.{RanOrder, MayChangeRun}
+use Rattle.run_orders.specs.Outcomes as runs
+use Rattle.run_orders.specs.Uses.{uses_of}
 use Rattle.prune_orders.specs.Outcomes.{PrunedAll, SameOutside}
 use Rattle.prune_orders.specs.Outcomes as prunes
 use Rattle.compact_orders.specs.Asking.{kept_pairs}
 use Rattle.compact_orders.specs.Outcomes.{Compacted}
 use Rattle.compact_orders.specs.Left.{AreReread, LeavesRefused}
-use Rattle.store_answers.specs.Stores.{Stores}
+use Rattle.store_answers.specs.Stores.{held_in}
 use Rattle.sample.specs.Lines.{PutsSample}
 
 abbrev pub usage : List ℕ
 usage = codes "usage: turbo [run] <task>... [options] [-- words]\n"
 
 -- help: nothing but the line of usage
-pub record Helped (Heard : Type 0) (old new : Moment) (status : ℕ) : Type 0 where
+pub record Helped (Heard : Type 0) (old new : OrderMoment) (status : ℕ) : Type 0 where
   pub files : new.files ≡ old.files
   pub steps : new.steps ≡ old.steps
   pub page_is : Heard → new.printed ≡ old.printed ++ usage
   pub status_is : status ≡ 0
 
 -- a sample: nothing but its lines
-pub record Sampled (size : ℕ) (Heard : Type 0) (old new : Moment) (status : ℕ) : Type 0 where
+pub record Sampled (size : ℕ) (Heard : Type 0) (old new : OrderMoment) (status : ℕ) : Type 0 where
   pub files : new.files ≡ old.files
   pub steps : new.steps ≡ old.steps
   pub page_is : Heard → PutsSample size old.printed new.printed
   pub status_is : status ≡ 0
 
 -- pruning: the files and what was printed, and nothing else
-pub record Pruned (docker : Bool) (targets : List (List ℕ)) (Heard : Type 0) (old new : Moment)
+pub record Pruned (docker : Bool) (targets : List (List ℕ)) (Heard : Type 0) (old new : OrderMoment)
     (status : ℕ) : Type 0 where
   pub all : PrunedAll docker targets Heard old.files new.files old.printed new.printed status
   pub steps : new.steps ≡ old.steps
 
--- compaction: the current one of the stores has what is kept of it, and the line was printed
-pub record MadeSmaller (keep : Option ℕ) (Heard : Type 0) (stores : Stores) (old new : Moment)
-    (status : ℕ) : Type 0 where
+-- compaction: the current one of the store and the spare one has what is kept of it, and the line
+-- was printed
+pub record MadeSmaller (keep : Option ℕ) (Heard : Type 0) (old new : OrderMoment) (status : ℕ)
+    : Type 0 where
   pub files : new.files ≡ old.files
   pub steps : new.steps ≡ old.steps
-  pub pairs : new.held.pairs ≡ Some (kept_pairs keep stores)
-  pub made : Compacted keep Heard stores old.printed new.printed status
+  pub pairs : (held_in new.held.local).pairs ≡ Some (kept_pairs keep old.held.local)
+  pub made : Compacted keep Heard old.held.local old.printed new.printed status
 
--- what an order did over these stores
-abbrev pub DidOrder : Result Order WordsErr → Book → List (List ℕ × List ℕ) → Type 0 → Stores
-    → Moment → Moment → ℕ → Type 0
-DidOrder (Err fault) book env Heard stores old new status = ⊥
-DidOrder (Ok Help) book env Heard stores old new status = Helped Heard old new status
-DidOrder (Ok (Prune targets docker)) book env Heard stores old new status =
+-- what an order did
+abbrev pub DidOrder : Result Order WordsErr → Book → List (List ℕ × List ℕ) → Type 0
+    → OrderMoment → OrderMoment → ℕ → Type 0
+DidOrder (Err fault) book env Heard old new status = ⊥
+DidOrder (Ok Help) book env Heard old new status = Helped Heard old new status
+DidOrder (Ok (Prune targets docker)) book env Heard old new status =
     Pruned docker targets Heard old new status
-DidOrder (Ok (Sample size)) book env Heard stores old new status =
-    Sampled size Heard old new status
-DidOrder (Ok (Compact keep)) book env Heard stores old new status =
-    MadeSmaller keep Heard stores old new status
-DidOrder (Ok (Run order)) book env Heard stores old new status =
+DidOrder (Ok (Sample size)) book env Heard old new status = Sampled size Heard old new status
+DidOrder (Ok (Compact keep)) book env Heard old new status = MadeSmaller keep Heard old new status
+DidOrder (Ok (Run order)) book env Heard old new status =
     RanOrder book order env Heard old new status
 
 -- what the words ask for was done
-abbrev pub Did : List (List ℕ) → Book → List (List ℕ × List ℕ) → Type 0 → Stores → Moment
-    → Moment → ℕ → Type 0
-Did words book env Heard stores old new status =
-    DidOrder (order_of words) book env Heard stores old new status
+abbrev pub Did : List (List ℕ) → Book → List (List ℕ × List ℕ) → Type 0 → OrderMoment
+    → OrderMoment → ℕ → Type 0
+Did words book env Heard old new status = DidOrder (order_of words) book env Heard old new status
 
 -- ---- what no device has a say in
 
@@ -89,14 +89,33 @@ AnsweredAlone (Ok (Compact keep)) Heard before after answer = ⊤
 AnsweredAlone (Ok (Prune targets docker)) Heard before after answer = ⊤
 AnsweredAlone (Ok (Run order)) Heard before after answer = ⊤
 
--- only orders to run and to compact use the stores
-abbrev pub KeepsStore : {S : Type 0} → Result Order WordsErr → S → S → Type 0
-KeepsStore (Ok (Run order)) old new = ⊤
+-- An order to run keeps the stores that it does not use, and one to compact uses the store and the
+-- spare one. No other order uses any.
+abbrev pub KeepsStore : {D : Type 0} → Result Order WordsErr → D → D → Type 0
+KeepsStore (Ok (Run order)) old new = runs.KeepsLocal (uses_of order) order.access old new
 KeepsStore (Ok (Compact keep)) old new = ⊤
 KeepsStore (Ok (Prune targets docker)) old new = new ≡ old
 KeepsStore (Ok (Sample size)) old new = new ≡ old
 KeepsStore (Ok Help) old new = new ≡ old
 KeepsStore (Err fault) old new = new ≡ old
+
+-- the second store
+abbrev pub KeepsSecond : {D : Type 0} → Result Order WordsErr → D → D → Type 0
+KeepsSecond (Ok (Run order)) old new = runs.KeepsSecond (uses_of order) old new
+KeepsSecond (Ok (Compact keep)) old new = new ≡ old
+KeepsSecond (Ok (Prune targets docker)) old new = new ≡ old
+KeepsSecond (Ok (Sample size)) old new = new ≡ old
+KeepsSecond (Ok Help) old new = new ≡ old
+KeepsSecond (Err fault) old new = new ≡ old
+
+-- the shared file
+abbrev pub KeepsShared : {D : Type 0} → Result Order WordsErr → D → D → Type 0
+KeepsShared (Ok (Run order)) old new = runs.KeepsShared (uses_of order) old new
+KeepsShared (Ok (Compact keep)) old new = new ≡ old
+KeepsShared (Ok (Prune targets docker)) old new = new ≡ old
+KeepsShared (Ok (Sample size)) old new = new ≡ old
+KeepsShared (Ok Help) old new = new ≡ old
+KeepsShared (Err fault) old new = new ≡ old
 
 -- ---- what is refused
 

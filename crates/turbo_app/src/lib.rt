@@ -32,5 +32,5 @@ mod top;
 pub use answers::Answer;
 pub use laws::{image_law, truth_law};
 pub use refusals::{Refusal, StoreFile};
-pub use run_orders::{CACHE_FORM, SHARED_FORM, run_order};
+pub use run_orders::run_order;
 pub use top::turbo;

@@ -1,4 +1,5 @@
-// Bytes as texts of which each character stands for the byte of its number, and the length of a store in results.
+// Bytes as texts of which each character stands for the byte of its number, and the length of a
+// store in results.
 use anyhow::{Context, Result};
 use std::alloc::Global;
 

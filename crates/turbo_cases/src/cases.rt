@@ -9,7 +9,8 @@ use crate::tally::Tally;
 use anyhow::{Context, Result};
 use std::alloc::Global;
 
-/// A run of a case: the call that fails in one of its steps, and what is wanted in the place of what the steps say.
+/// A run of a case: the call that fails in one of its steps, and what is wanted in the place of
+/// what the steps say.
 #[derive(Clone, Copy, Drop)]
 struct Run<'a> {
     group: &'a Group,
@@ -33,7 +34,8 @@ fn compare_first(seen: &Seen, first: Option<&Seen>, differences: &mut Difference
     differences.compare_number("bytes of the store", wanted, seen.store.as_slice().len())
 }
 
-// Compares what is seen of a step with what is wanted, with what was before it, and with the first step.
+// Compares what is seen of a step with what is wanted, with what was before it, and with the first
+// step.
 fn compare_step(
     alloc: Global,
     wanted: &Wanted,
@@ -76,6 +78,8 @@ fn differences_of(alloc: Global, run: &Run) -> Result<Vec<String>> {
         scene.files = seen.files.copy()?;
         scene.store = seen.store.copy()?;
         scene.spare = seen.spare.copy()?;
+        scene.second = seen.second.copy()?;
+        scene.shared = seen.shared.copy()?;
         first = first.or(Some(seen));
     }
     Ok(Vec::new(alloc))

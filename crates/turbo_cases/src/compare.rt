@@ -112,32 +112,54 @@ fn compare_files(
     Ok(())
 }
 
-fn compare_store(
+// The bytes of the stores, a character each.
+fn compare_bytes(
     alloc: Global,
     wanted: &Wanted,
     seen: &Seen,
     differences: &mut Differences,
 ) -> Result<()> {
+    let stores = [
+        ("the store", &wanted.store, &seen.store),
+        ("the spare store", &wanted.spare, &seen.spare),
+        ("the second store", &wanted.second, &seen.second),
+        ("the shared file", &wanted.shared, &seen.shared),
+    ];
+    for (what, wanted, store) in stores.iter() {
+        if let Some(bytes) = wanted {
+            let came = text_of(alloc, store.as_slice())?;
+            differences.compare(what, bytes.as_str(), came.as_str())?;
+        }
+    }
+    Ok(())
+}
+
+fn compare_store(wanted: &Wanted, seen: &Seen, differences: &mut Differences) -> Result<()> {
     if let Some(stored) = wanted.stored {
         differences.compare_number("bytes of the store", stored, seen.store.as_slice().len())?;
     }
-    if let Some(pairs) = wanted.pairs {
-        differences.compare_number(
-            "results in the store",
-            pairs,
-            pairs_in(seen.store.as_slice()),
-        )?;
-    }
-    if let Some(pairs) = wanted.spare_pairs {
-        differences.compare_number(
+    let results = [
+        ("results in the store", wanted.pairs, &seen.store),
+        (
             "results in the spare store",
-            pairs,
-            pairs_in(seen.spare.as_slice()),
-        )?;
-    }
-    if let Some(store) = &wanted.store {
-        let came = text_of(alloc, seen.store.as_slice())?;
-        differences.compare("the store", store.as_str(), came.as_str())?;
+            wanted.spare_pairs,
+            &seen.spare,
+        ),
+        (
+            "results in the second store",
+            wanted.second_pairs,
+            &seen.second,
+        ),
+        (
+            "results in the shared file",
+            wanted.shared_pairs,
+            &seen.shared,
+        ),
+    ];
+    for (what, wanted, store) in results.iter() {
+        if let Some(pairs) = wanted {
+            differences.compare_number(what, *pairs, pairs_in(store.as_slice()))?;
+        }
     }
     Ok(())
 }
@@ -185,5 +207,6 @@ pub fn compare(
         compare_page(alloc, lines.as_slice(), seen.page.as_str(), differences)?;
     }
     compare_files(alloc, wanted, seen, differences)?;
-    compare_store(alloc, wanted, seen, differences)
+    compare_store(wanted, seen, differences)?;
+    compare_bytes(alloc, wanted, seen, differences)
 }

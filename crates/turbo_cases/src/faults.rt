@@ -12,12 +12,15 @@ pub struct Fault {
     pub keep: u64,
 }
 
-/// The numbers of the calls that fail, how many calls of a store pass, and what a crash leaves, where there is one.
+/// The numbers of the calls that fail, how many calls of a store pass, and what a crash leaves,
+/// where there is one.
 #[derive(Drop)]
 pub struct Faults {
     pub world: Vec<u64>,
     pub store: StoreFaults,
     pub spare: StoreFaults,
+    pub second: StoreFaults,
+    pub shared: Vec<u64>,
     pub output: Vec<u64>,
 }
 
@@ -47,6 +50,8 @@ fn told(alloc: Global, fails: Option<&Fails>) -> Result<Faults> {
         world: Vec::new(alloc),
         store: no_store_faults(alloc),
         spare: no_store_faults(alloc),
+        second: no_store_faults(alloc),
+        shared: Vec::new(alloc),
         output: Vec::new(alloc),
     };
     if let Some(fails) = fails {
@@ -59,6 +64,11 @@ fn told(alloc: Global, fails: Option<&Fails>) -> Result<Faults> {
             .spare
             .fails
             .extend_from_slice(fails.spare.as_slice())?;
+        faults
+            .second
+            .fails
+            .extend_from_slice(fails.second.as_slice())?;
+        faults.shared.extend_from_slice(fails.shared.as_slice())?;
         faults.output.extend_from_slice(fails.output.as_slice())?;
     }
     Ok(faults)
@@ -74,9 +84,12 @@ pub fn faults_of(alloc: Global, step: &Step, fault: Option<Fault>) -> Result<Fau
         Device::World => faults.world.push(fault.number)?,
         Device::Store => faults.store.fails.push(fault.number)?,
         Device::Spare => faults.spare.fails.push(fault.number)?,
+        Device::Second => faults.second.fails.push(fault.number)?,
+        Device::Shared => faults.shared.push(fault.number)?,
         Device::Output => faults.output.push(fault.number)?,
         Device::Cut => cut(&mut faults.store, fault),
         Device::CutSpare => cut(&mut faults.spare, fault),
+        Device::CutSecond => cut(&mut faults.second, fault),
     }
     Ok(faults)
 }

@@ -3,8 +3,8 @@ use serde::Deserialize;
 use serde_json::Value;
 use std::collections::BTreeMap;
 
-/// The files of a repository, or changes to them: a text stands for itself, `null` for no file, and every other value
-/// for its JSON text without blanks.
+/// The files of a repository, or changes to them: a text stands for itself, `null` for no file, and
+/// every other value for its JSON text without blanks.
 pub type Contents = BTreeMap<String, Value>;
 
 /// What commands do, by the tasks' names.
@@ -40,7 +40,8 @@ pub struct Case {
     pub sweep: Option<Sweep>,
 }
 
-/// So many files. In their paths and texts `{n}` stands for the number of the file, and `{next}` for the one behind it.
+/// So many files. In their paths and texts `{n}` stands for the number of the file, and `{next}`
+/// for the one behind it.
 #[derive(Drop, Deserialize)]
 #[serde(deny_unknown_fields)]
 pub struct Many {
@@ -60,8 +61,8 @@ pub struct Many {
     pub fill: usize,
 }
 
-/// What the command of a task does. The texts may hold `{words}`, `{scripts}`, `{file PATH}`, `{env NAME}`
-/// and `{fill NUMBER}`.
+/// What the command of a task does. The texts may hold `{words}`, `{scripts}`, `{file PATH}`,
+/// `{env NAME}` and `{fill NUMBER}`.
 #[derive(Drop, Deserialize)]
 #[serde(deny_unknown_fields)]
 pub struct Does {
@@ -85,10 +86,14 @@ pub struct Step {
     /// Changes to the files before the call.
     #[serde(default)]
     pub write: Contents,
-    /// The bytes of the store before the call, a character each, and those of the spare one.
+    /// The bytes of the store before the call, a character each, and those of the spare one, of the
+    /// second one and of the shared file.
     pub store: Option<String>,
     pub spare: Option<String>,
-    /// In the place of the store one with room for so many bytes more, of which nothing is seen behind the call.
+    pub second: Option<String>,
+    pub shared: Option<String>,
+    /// In the place of the store one with room for so many bytes more, of which nothing is seen
+    /// behind the call.
     pub room: Option<u32>,
     /// Bytes of the store that are changed before the call.
     #[serde(default)]
@@ -102,8 +107,21 @@ pub struct Step {
     /// Which of the running commands ends first, wait by wait.
     #[serde(default)]
     pub ends: Vec<u32>,
+    /// What other runs put into the shared file before its turn of each number: all results of
+    /// that store.
+    #[serde(default)]
+    pub turns: Vec<Option<Source>>,
     pub fails: Option<Fails>,
     pub wanted: Option<Wanted>,
+}
+
+/// A store of the case, of which the results are put elsewhere.
+#[derive(Clone, Copy, Drop, Deserialize)]
+#[serde(rename_all = "snake_case")]
+pub enum Source {
+    Store,
+    Spare,
+    Second,
 }
 
 /// A byte of the store, as the character that stands for it.
@@ -125,14 +143,20 @@ pub struct Fails {
     #[serde(default)]
     pub spare: Vec<u64>,
     #[serde(default)]
+    pub second: Vec<u64>,
+    #[serde(default)]
+    pub shared: Vec<u64>,
+    #[serde(default)]
     pub output: Vec<u64>,
 }
 
-/// What is wanted of a step. What is not named is not compared, but for the answer, which is `done` then.
+/// What is wanted of a step. What is not named is not compared, but for the answer, which is `done`
+/// then.
 #[derive(Drop, Deserialize)]
 #[serde(deny_unknown_fields)]
 pub struct Wanted {
-    /// All of a refusal: the answer, the status, the line, and that nothing was started and no file changed.
+    /// All of a refusal: the answer, the status, the line, and that nothing was started and no file
+    /// changed.
     pub refusal: Option<String>,
     pub answer: Option<String>,
     pub status: Option<u8>,
@@ -143,11 +167,16 @@ pub struct Wanted {
     pub files: BTreeMap<String, Option<String>>,
     /// How many bytes the store has.
     pub stored: Option<usize>,
-    /// How many results the store has, and how many the spare one.
+    /// How many results the store has, the spare one, the second one and the shared file.
     pub pairs: Option<usize>,
     pub spare_pairs: Option<usize>,
-    /// The bytes of the store, a character each.
+    pub second_pairs: Option<usize>,
+    pub shared_pairs: Option<usize>,
+    /// The bytes of the stores, a character each.
     pub store: Option<String>,
+    pub spare: Option<String>,
+    pub second: Option<String>,
+    pub shared: Option<String>,
     /// Whether the page and the length of the store are those of the first step.
     #[serde(default)]
     pub as_first: bool,
@@ -160,14 +189,18 @@ pub enum Device {
     World,
     Store,
     Spare,
+    Second,
+    Shared,
     Output,
     /// The store is cut off before the call, and crashed behind the step.
     Cut,
-    /// The same of the spare store.
+    /// The same of the spare store, and of the second one.
     CutSpare,
+    CutSecond,
 }
 
-/// Has the case run once for each outcome: in the run of number k the call of number k fails in one of the steps.
+/// Has the case run once for each outcome: in the run of number k the call of number k fails in one
+/// of the steps.
 #[derive(Drop, Deserialize)]
 #[serde(deny_unknown_fields)]
 pub struct Sweep {
@@ -175,7 +208,8 @@ pub struct Sweep {
     /// The number of the step in which it fails.
     #[serde(default)]
     pub step: usize,
-    /// What a crash leaves: this byte in the place of all that was written last, and so many bytes of it past the end.
+    /// What a crash leaves: this byte in the place of all that was written last, and so many bytes
+    /// of it past the end.
     #[serde(default)]
     pub fill: u8,
     pub keep: Option<u64>,

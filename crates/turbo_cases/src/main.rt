@@ -1,7 +1,7 @@
 //! Whole runs of the program over devices in memory, against what the files of cases want.
 //!
-//! The files stand in the current folder, or in the one that is named as the first argument. A line is
-//! printed for each group, and the first cases that differ.
+//! The files stand in the current folder, or in the one that is named as the first argument. A line
+//! is printed for each group, and the first cases that differ.
 #![tactic(auto)]
 
 mod bytes;
@@ -15,6 +15,7 @@ mod many;
 mod scene;
 mod steps;
 mod tally;
+mod turns;
 
 use anyhow::Result;
 use cases::run_group;
@@ -23,7 +24,7 @@ use std::{env, fs};
 use tally::Tally;
 
 /// The groups, each in a file of its name.
-const GROUPS: [&str; 18] = [
+const GROUPS: [&str; 19] = [
     "one_package",
     "monorepo",
     "graphs",
@@ -39,6 +40,7 @@ const GROUPS: [&str; 18] = [
     "pruning",
     "sample",
     "compaction",
+    "stores",
     "refusals",
     "sizes",
     "limits",
@@ -55,7 +57,8 @@ fn run_file(
     run_group(rt.alloc(), text.as_str(), tally)
 }
 
-// Runs the cases of a group and prints its line. A file that can't be run is shown as a case that differs.
+// Runs the cases of a group and prints its line. A file that can't be run is shown as a case that
+// differs.
 fn run(rt: &HostRuntime, folder: &str, group: &str) -> Result<()> {
     let mut tally = Tally::new(rt.alloc());
     if let Err(error) = run_file(rt, folder, group, &mut tally) {

@@ -13,6 +13,8 @@ pub struct Scene {
     pub files: Files,
     pub store: Bytes,
     pub spare: Bytes,
+    pub second: Bytes,
+    pub shared: Bytes,
 }
 
 fn content_of(alloc: Global, content: &Value) -> Result<Bytes> {
@@ -73,6 +75,8 @@ impl Scene {
             files: Files::new(alloc),
             store: Bytes::from_vec(Vec::new(alloc)),
             spare: Bytes::from_vec(Vec::new(alloc)),
+            second: Bytes::from_vec(Vec::new(alloc)),
+            shared: Bytes::from_vec(Vec::new(alloc)),
         }
     }
 
@@ -100,16 +104,6 @@ impl Scene {
         Ok(())
     }
 
-    pub fn set_store(&mut self, alloc: Global, store: &str) -> Result<()> {
-        self.store = Bytes::from_vec(bytes_of(alloc, store)?);
-        Ok(())
-    }
-
-    pub fn set_spare(&mut self, alloc: Global, spare: &str) -> Result<()> {
-        self.spare = Bytes::from_vec(bytes_of(alloc, spare)?);
-        Ok(())
-    }
-
     pub fn patch(&mut self, alloc: Global, patches: &[Patch]) -> Result<()> {
         let mut store = Vec::from_slice(alloc, self.store.as_slice())?;
         for patch in patches {
@@ -120,4 +114,9 @@ impl Scene {
         self.store = Bytes::from_vec(store);
         Ok(())
     }
+}
+
+/// The bytes that a text stands for, a character each.
+pub fn store_of(alloc: Global, text: &str) -> Result<Bytes> {
+    Ok(Bytes::from_vec(bytes_of(alloc, text)?))
 }

@@ -1,10 +1,11 @@
 // One step of a case: what it is given, and the call.
-use crate::called::{Cuttable, Given, Seen, call, call_full};
+use crate::called::{Cuttable, Given, Others, Seen, call, call_full};
 use crate::commands::book_of;
 use crate::faults::{Fault, StoreFaults, faults_of};
 use crate::format::{Case, Group, Step};
 use crate::many::push_many;
-use crate::scene::Scene;
+use crate::scene::{Scene, store_of};
+use crate::turns::turns_of;
 use anyhow::{Context, Result};
 use case_files::Vast;
 use rel_path::{Bytes, Pairs, Text, Texts};
@@ -45,6 +46,14 @@ pub fn scene_of(alloc: Global, group: &Group, case: &Case) -> Result<Scene> {
     Ok(scene)
 }
 
+// Puts the bytes in the place of a store's, where there are some.
+fn set(alloc: Global, store: &mut Bytes, text: Option<&String>) -> Result<()> {
+    if let Some(text) = text {
+        *store = store_of(alloc, text.as_str())?;
+    }
+    Ok(())
+}
+
 // Makes the changes that come before the call.
 fn prepare(
     alloc: Global,
@@ -59,12 +68,10 @@ fn prepare(
     if let Some(folder) = &step.enter {
         scene.enter(alloc, folder.as_str())?;
     }
-    if let Some(store) = &step.store {
-        scene.set_store(alloc, store.as_str())?;
-    }
-    if let Some(spare) = &step.spare {
-        scene.set_spare(alloc, spare.as_str())?;
-    }
+    set(alloc, &mut scene.store, step.store.as_ref())?;
+    set(alloc, &mut scene.spare, step.spare.as_ref())?;
+    set(alloc, &mut scene.second, step.second.as_ref())?;
+    set(alloc, &mut scene.shared, step.shared.as_ref())?;
     scene.write(alloc, &step.write)?;
     scene.patch(alloc, step.patch.as_slice())
 }
@@ -108,10 +115,16 @@ pub fn run_step(
     prepare(alloc, group, case, step, scene)?;
     let faults = faults_of(alloc, step, fault)?;
     let given = given_to(alloc, group, case, step, scene, faults.world, faults.output)?;
-    let spare = cuttable(alloc, &scene.spare, faults.spare)?;
+    let others = Others {
+        spare: cuttable(alloc, &scene.spare, faults.spare)?,
+        second: cuttable(alloc, &scene.second, faults.second)?,
+        shared: scene.shared.copy()?,
+        shared_puts: turns_of(alloc, scene, step.turns.as_slice())?,
+        shared_fails: faults.shared,
+    };
     if let Some(room) = step.room {
-        return call_full(alloc, given, Vast::with_room(alloc, room.into())?, spare);
+        return call_full(alloc, given, Vast::with_room(alloc, room.into())?, others);
     }
     let store = cuttable(alloc, &scene.store, faults.store)?;
-    call(alloc, given, store, spare)
+    call(alloc, given, store, others)
 }

@@ -11,18 +11,20 @@ use Rattle.task_devices.specs.Keeping.{IsFurther}
 use Rattle.store_dev.specs.Device.{LeavesOnly}
 use Rattle.store_dev.specs.Moments.{leaves_more}
 use Rattle.answers.specs.Answers.{IfDone}
-use Rattle.answers.specs.Facts.{if_fault, if_refused, early_as}
+use Rattle.answers.specs.Facts.{if_fault, if_refused}
 use Rattle.answers.specs.Moments.{Moment}
 use Rattle.answers.specs.Stops.{IfFault}
 use Rattle.refusals.specs.declared.refusal.StoreFile.TheVariants.{Shared}
 use Rattle.store_answers.specs.Facts.{no_store, no_some}
 use Rattle.store_answers.specs.Refused.{IsNoStore}
+use Rattle.cache_runs.specs.Openings.{IsTrustedRun}
+use Rattle.cache_runs.proofs.Finished.{done_as}
+use Rattle.cache_runs.proofs.Stopped.{unstarted}
 use Rattle.file_runs.specs.Images.{IsOneOrAddedTo, IsDueBy}
-use Rattle.file_runs.specs.Outcomes.{IsTrustedRun, RanAs}
+use Rattle.file_runs.specs.Outcomes.{RanAs}
 use Rattle.file_runs.specs.Stops.{StopsOpening}
 use Rattle.file_runs.specs.Turns.{at_moment}
 use Rattle.file_runs.proofs.Ending.{cause_unopened, cause_end, only_end, held_first, sound_end}
-use Rattle.file_runs.proofs.Finished.{done_as}
 use Rattle.file_runs.proofs.Leaving.{goes_leaves}
 use Rattle.file_runs.proofs.Outcomes.{ran_dry, ran_live, stops_dry, stops_live, left_dry, left_live, left_further}
 use Rattle.file_runs.proofs.running.run_shared.Goals as goal
@@ -48,9 +50,9 @@ returns-in-Err-clause-refused g c store =
 pub returns-in-Err-clause-stopped : goal.returns-in-Err-clause-stopped
 returns-in-Err-clause-stopped g c told store heard =
     if_fault c.unopened.result _ _
-    (λ cause line early. inl (early_as _ _
+    (λ cause line early. inl (unstarted _ _
     (no_store Shared c.in-Err.field-0.fault (g.H.Shared.content c.args.shared)
-    (c.in-Err.ensures.unopened.fault store)) _ _ cause line early))
+    (c.in-Err.ensures.unopened.fault store)) _ _ refl refl cause line early))
     (c.unopened.ensures.stopped heard)
 
 pub returns-in-Err-clause-sound : goal.returns-in-Err-clause-sound

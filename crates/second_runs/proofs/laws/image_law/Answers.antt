@@ -1,7 +1,7 @@
 -- By what the images tell.
 use Rattle.std.proofs.Common.{inl, inr, Bool, true, false, List, [], ℕ}
+use Rattle.cache_runs.specs.Openings.{opening_at}
 use Rattle.second_runs.specs.Images.{AddsBehind, adds}
-use Rattle.second_runs.specs.Outcomes.{opening_at}
 use Rattle.second_runs.proofs.Reading.{adds_sound}
 use Rattle.second_runs.proofs.Truth.{left_good}
 use Rattle.second_runs.proofs.laws.image_law.Goals as goal

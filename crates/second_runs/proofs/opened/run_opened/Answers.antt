@@ -2,7 +2,6 @@
 use Rattle.std.proofs.Common.{◌≡◌, ◌∙◌, ℕ, Bool, true, false, List, ◌++◌, Some, refl, ap, subst}
 use Rattle.std.proofs.Math.Path.{transport}
 use Rattle.std.specs.Prelude.{IsTrue, ⊤}
-use Rattle.listing.specs.KeyText.{Fits}
 use Rattle.store_dev.specs.Device.{LeavesOnly}
 use Rattle.store_dev.specs.Moments as device
 use Rattle.store_dev.specs.declared.device.StoreDevice.{Ghosts}
@@ -17,8 +16,6 @@ use Rattle.relay_store.specs.Laws.{GoesOn, Says}
 use Rattle.relay_store.specs.Relays.{all_pairs, base_of, state_of, moment_of as clock_of, left_of, says}
 use Rattle.relay_store.specs.Stores.{state_in, moment_in, images_in}
 use Rattle.run_laws.specs.Effects.{Book}
-use Rattle.run_laws.specs.Keys.{IsStorable}
-use Rattle.run_laws.specs.Pairs.{IsGood}
 use Rattle.run_laws.specs.Runs.{IsReady}
 use Rattle.run_plan.specs.declared.plan.Plan.{Plan}
 use Rattle.run_plan.specs.Answers.{Ran, IsSafe}
@@ -27,17 +24,18 @@ use Rattle.run_plan.specs.Openings.{setting_of}
 use Rattle.runner.specs.Answers.{HasSafePairs}
 use Rattle.task_devices.specs.Keeping.{IsFurther}
 use Rattle.answers.specs.Answers.{IfDone, HasCauseIn, counts_at}
-use Rattle.answers.specs.Facts.{if_fault, within}
+use Rattle.answers.specs.Moments.{moment_of}
 use Rattle.answers.specs.Stops.{IfFault}
-use Rattle.cache_runs.specs.Stops.{StopsDry, StopsOver}
-use Rattle.second_runs.specs.Images.{IsTrusted, IsTrustedRun, IsLeftBy}
-use Rattle.second_runs.specs.Moments.{Moment, both_of, moment_of}
+use Rattle.cache_runs.specs.Openings.{IsTrusted, IsTrustedRun, opening_at}
+use Rattle.cache_runs.specs.Stops.{StopsRun}
+use Rattle.cache_runs.proofs.Finished.{dry_done, live_done, done_as}
+use Rattle.cache_runs.proofs.Ready.{is_ready}
+use Rattle.cache_runs.proofs.Stopped.{stops_dry, stops_live}
+use Rattle.second_runs.specs.Images.{IsLeftBy}
+use Rattle.second_runs.specs.Moments.{Moment, both_of}
 use Rattle.second_runs.specs.Opened.{held_of}
-use Rattle.second_runs.specs.Outcomes.{AreStores, RanPlan, RanPlanDry, RanSecond, opening_at}
-use Rattle.second_runs.specs.Stops.{StopsRun}
+use Rattle.second_runs.specs.Outcomes.{AreStores, RanPlan, RanPlanDry, RanSecond}
 use Rattle.second_runs.proofs.Behind.{goes_behind, goes_left, goes_same, both_added}
-use Rattle.second_runs.proofs.Finished.{dry_done, live_done, done_as}
-use Rattle.second_runs.proofs.Ready.{is_ready}
 use Rattle.second_runs.proofs.Relaying.{local_there, second_there, room_stays, faults_began}
 use Rattle.second_runs.proofs.Relaying.{faults_end, local_stays, second_stays}
 use Rattle.second_runs.proofs.Relaying.{local_goes_on, second_goes_on}
@@ -107,8 +105,10 @@ returns-clause-ran g c told t u held is_local is_second = by c.args.is_dry refl
     new : Moment
     new = moment_of (g.W.Tree.state c.run_over-answer.new.world) (g.W.Spawner.runs c.run_over-answer.new.world) (both_of (held_of c.parts-local.result.0) (held_of c.parts-local.result.1)) (g.K.Sink.written c.run_over-answer.new.out)
 
-    ready : IsStorable plan.mode book plan.listing → Fits plan.listing → IsGood book all → IsReady (setting_of plan (opening_at book old all))
-    ready = is_ready plan (opening_at book old all) c.requires.plan (g.met.W.Spawner.well_behaved (g.W.Spawner.runs c.args.world.now).book) (c.requires.inputs told)
+    ready : IsTrusted book plan all → IsReady (setting_of plan (opening_at book old all))
+    ready = is_ready plan (opening_at book old all) c.requires.plan
+        (g.met.W.Spawner.well_behaved (g.W.Spawner.runs c.args.world.now).book)
+        (c.requires.inputs told)
 
     local_now : IsTrue (state_of c.run_over-answer.new.cache).whole → GoesOn access.local_puts all (state_in c.args.local).pairs (λ pairs. pairs ≡ after) (Some (state_in c.parts-local.result.0).pairs)
     local_now whole =
@@ -154,7 +154,9 @@ returns-clause-ran g c told t u held is_local is_second = by c.args.is_dry refl
           room_is = room_stays c.new-cache.result c.run_over-answer.new.cache access c.args.local c.args.second
               c.parts-local.result c.new-cache.ensures.stores c.parts-local.ensures.stores
               c.new-cache.ensures.access c.run_over-answer.ensures.keeps.base;
-          ran = λ storable fits good. subst (λ (l : List Pair). Ran plan (opening_at book old all) new.files l (state_of c.run_over-answer.new.cache).room new.steps g.K.Sink.tells old.printed new.printed status) a.now_is (ended (ready storable fits good));
+          ran = λ trust. subst (λ (l : List Pair). Ran plan (opening_at book old all) new.files l
+              (state_of c.run_over-answer.new.cache).room new.steps g.K.Sink.tells old.printed
+              new.printed status) a.now_is (ended (ready trust));
         })
 
 -- ---- a run that was stopped
@@ -180,19 +182,20 @@ returns-clause-stopped g c told t u heard held kept = by c.args.is_dry refl
     new : Moment
     new = moment_of (g.W.Tree.state c.run_over-answer.new.world) (g.W.Spawner.runs c.run_over-answer.new.world) kept (g.K.Sink.written c.run_over-answer.new.out)
 
-    ready : IsStorable plan.mode book plan.listing → Fits plan.listing → IsGood book all → IsReady (setting_of plan (opening_at book old all))
-    ready = is_ready plan (opening_at book old all) c.requires.plan (g.met.W.Spawner.well_behaved (g.W.Spawner.runs c.args.world.now).book) (c.requires.inputs told)
-
-    by : (dry : Bool) → c.args.is_dry ≡ dry → IfFault c.run_over-answer.result (StopsRun dry book plan all g.K.Sink.tells old new)
+    by : (dry : Bool) → c.args.is_dry ≡ dry → IfFault c.run_over-answer.result
+        (StopsRun dry book plan all g.K.Sink.tells old new)
     by true is =
-        let files = rw is at c.run_over-answer.ensures.dry_files in
-        let steps = rw is at c.run_over-answer.ensures.dry_steps in
-        let stopped = subst (λ (l : List Pair). IfFault c.run_over-answer.result (StopsDry plan l old.printed new.printed)) before (rw is at (c.run_over-answer.ensures.dry_stopped (t, u) heard)) in
-        if_fault c.run_over-answer.result _ _ (λ cause line stops. (files, steps, stops)) stopped
+        let run = c.run_over-answer in
+        stops_dry plan book old new (state_of c.new-cache.result).pairs all before g.K.Sink.tells
+        run.result (rw is at run.ensures.dry_files) (rw is at run.ensures.dry_steps)
+        (rw is at (run.ensures.dry_stopped (t, u) heard))
     by false is =
-        let live = subst (λ (l : List Pair). IsReady (setting_of plan (opening_at book old l)) → IfFault c.run_over-answer.result (StopsOver plan (opening_at book old l) new.files (state_of c.run_over-answer.new.cache).pairs (state_of c.run_over-answer.new.cache).room new.steps g.K.Sink.tells old.printed new.printed)) before (rw is at (c.run_over-answer.ensures.stopped told (t, u) heard)) in
-        within c.run_over-answer.result (IsStorable plan.mode book plan.listing) _ (λ storable. within c.run_over-answer.result (Fits plan.listing) _ (λ fits. within c.run_over-answer.result (IsGood book all) _
-        (λ good. if_fault c.run_over-answer.result _ _ (λ cause line stops. ((state_of c.run_over-answer.new.cache).room, (state_of c.run_over-answer.new.cache).pairs, stops)) (live (ready storable fits good)))))
+        let run = c.run_over-answer in
+        stops_live plan book old new (state_of c.new-cache.result).pairs all before g.K.Sink.tells
+        run.result c.requires.plan
+        (g.met.W.Spawner.well_behaved (g.W.Spawner.runs c.args.world.now).book)
+        (c.requires.inputs told) (state_of run.new.cache).pairs (state_of run.new.cache).room
+        (rw is at (run.ensures.stopped told (t, u) heard))
 
 -- ---- at every moment
 
@@ -256,7 +259,9 @@ returns-clause-local_left g c told t u held trusted = by c.args.is_dry refl trus
     room = (state_of c.run_over-answer.new.cache).room
 
     ready : IsTrusted book plan all → IsReady (setting_of plan (opening_at book old all))
-    ready trust = is_ready plan (opening_at book old all) c.requires.plan (g.met.W.Spawner.well_behaved (g.W.Spawner.runs c.args.world.now).book) (c.requires.inputs told) trust.storable trust.fits trust.good
+    ready = is_ready plan (opening_at book old all) c.requires.plan
+        (g.met.W.Spawner.well_behaved (g.W.Spawner.runs c.args.world.now).book)
+        (c.requires.inputs told)
 
     goes : (P : List Pair → Type 0) → Leaves clock_of left_of c.new-cache.result c.run_over-answer.new.cache (λ image. Says P (says (base_of c.new-cache.result) image))
         → LeavesOnly moment_in images_in c.args.local c.parts-local.result.0 (λ image. GoesOn c.args.access.local_puts all (state_in c.args.local).pairs P (told_as (state_in c.args.local).base image))
@@ -302,7 +307,9 @@ returns-clause-second_left g c told t u held trusted = by c.args.is_dry refl tru
     room = (state_of c.run_over-answer.new.cache).room
 
     ready : IsTrusted book plan all → IsReady (setting_of plan (opening_at book old all))
-    ready trust = is_ready plan (opening_at book old all) c.requires.plan (g.met.W.Spawner.well_behaved (g.W.Spawner.runs c.args.world.now).book) (c.requires.inputs told) trust.storable trust.fits trust.good
+    ready = is_ready plan (opening_at book old all) c.requires.plan
+        (g.met.W.Spawner.well_behaved (g.W.Spawner.runs c.args.world.now).book)
+        (c.requires.inputs told)
 
     goes : (P : List Pair → Type 0) → Leaves clock_of left_of c.new-cache.result c.run_over-answer.new.cache (λ image. Says P (says (base_of c.new-cache.result) image))
         → LeavesOnly moment_in images_in c.args.second c.parts-local.result.1 (λ image. GoesOn c.args.access.second_puts all (state_in c.args.second).pairs P (told_as (state_in c.args.second).base image))

@@ -9,16 +9,17 @@ use Rattle.pair_reader.specs.declared.wanted.Lengths.TheVariants as Lengths
 use Rattle.compact.specs.Current.{generation_in}
 use Rattle.relay_store.specs.Stores.{state_in}
 use Rattle.answers.specs.Answers.{HasCauseIn, counts_at}
-use Rattle.answers.specs.Facts.{if_fault, if_refused, early_as}
-use Rattle.answers.specs.Moments.{Held}
+use Rattle.answers.specs.Facts.{if_fault, if_refused}
+use Rattle.answers.specs.Moments.{Held, moment_of}
+use Rattle.cache_runs.proofs.Causes.{cause_in_sum}
+use Rattle.cache_runs.proofs.Finished.{done_as, done_both}
+use Rattle.cache_runs.proofs.Stopped.{unstarted}
 use Rattle.store_answers.specs.Facts.{no_store}
 use Rattle.store_answers.specs.Stores.{held_by}
 use Rattle.second_runs.specs.Images.{AddsTo, IsLeftOfLocal, IsLeftInLocal}
-use Rattle.second_runs.specs.Moments.{both_of, moment_of}
+use Rattle.second_runs.specs.Moments.{both_of}
 use Rattle.second_runs.specs.Opened.{held_of}
 use Rattle.second_runs.specs.Outcomes.{RanSecond}
-use Rattle.second_runs.proofs.Causes.{cause_more}
-use Rattle.second_runs.proofs.Finished.{done_as, done_both}
 use Rattle.second_runs.proofs.Handing.{access_both, faults_of, further, kept_reread, opened_generation, opened_sound, stays_or, unopened_reread}
 use Rattle.second_runs.proofs.Reading.{alone, alone_reread, reads_add, reads_left}
 use Rattle.second_runs.proofs.Stopping.{stops_as}
@@ -126,7 +127,10 @@ returns-in-Err-clause-second_reread g c u =
 pub returns-in-Err-clause-stopped : goal.returns-in-Err-clause-stopped
 returns-in-Err-clause-stopped g c told t u heard kept =
     if_fault c.unopened.result _ _
-    (λ cause line early. inl (early_as _ _ (λ reason is. inl (no_store c.args.file c.in-Err.field-0.fault (g.D.StoreDevice.content c.args.local) (c.in-Err.ensures.unopened.fault t) reason is)) _ _ cause line early))
+    (λ cause line early. inl (unstarted _ _
+    (λ reason is. inl (no_store c.args.file c.in-Err.field-0.fault
+    (g.D.StoreDevice.content c.args.local) (c.in-Err.ensures.unopened.fault t) reason is))
+    _ _ refl refl cause line early))
     (c.unopened.ensures.stopped heard)
 
 pub returns-in-Err-clause-sound : goal.returns-in-Err-clause-sound
@@ -147,8 +151,11 @@ returns-in-Err-clause-second_left g c told t u trusted =
 
 pub returns-in-Err-clause-cause : goal.returns-in-Err-clause-cause
 returns-in-Err-clause-cause g c =
-    cause_more (g.W.Tree.state c.args.world.now).faults (g.W.Spawner.runs c.args.world.now).faults (g.K.Sink.faults c.args.out.now)
-    (g.W.Tree.state c.args.world.now).faults (g.W.Spawner.runs c.args.world.now).faults (g.K.Sink.faults c.unopened.new.out)
-    (g.D.StoreDevice.store_faults c.args.local) (g.D.StoreDevice.store_faults c.in-Err.field-0.store) _ _
-    (g.R.StoreDevice.store_faults c.args.second) c.unopened.result refl refl
-    (c.unopened.ensures.cause (g.W.Tree.state c.args.world.now).faults (g.W.Spawner.runs c.args.world.now).faults (g.D.StoreDevice.store_faults c.args.local) (g.D.StoreDevice.store_faults c.in-Err.field-0.store) c.in-Err.ensures.unopened.cause)
+    let tree = (g.W.Tree.state c.args.world.now).faults in
+    let start = (g.W.Spawner.runs c.args.world.now).faults in
+    let before = g.D.StoreDevice.store_faults c.args.local in
+    let after = g.D.StoreDevice.store_faults c.in-Err.field-0.store in
+    cause_in_sum tree tree start start (g.K.Sink.faults c.args.out.now)
+    (g.K.Sink.faults c.unopened.new.out) before after (g.R.StoreDevice.store_faults c.args.second)
+    _ _ c.unopened.result refl refl
+    (c.unopened.ensures.cause tree start before after c.in-Err.ensures.unopened.cause)

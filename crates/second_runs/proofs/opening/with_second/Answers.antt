@@ -12,16 +12,17 @@ use Rattle.store_dev.specs.Moments.{leaves_more, leaves_then}
 use Rattle.relay_store.specs.Stores.{state_in}
 use Rattle.refusals.specs.declared.refusal.StoreFile.TheVariants as file
 use Rattle.answers.specs.Answers.{HasCauseIn, counts_at}
-use Rattle.answers.specs.Facts.{if_fault, if_refused, early_as}
-use Rattle.answers.specs.Moments.{Held}
+use Rattle.answers.specs.Facts.{if_fault, if_refused}
+use Rattle.answers.specs.Moments.{Held, moment_of}
+use Rattle.cache_runs.proofs.Causes.{cause_in_sum}
+use Rattle.cache_runs.proofs.Finished.{done_as, done_both}
+use Rattle.cache_runs.proofs.Stopped.{unstarted}
 use Rattle.store_answers.specs.Facts.{no_store}
 use Rattle.store_answers.specs.Stores.{held_by}
 use Rattle.second_runs.specs.Images.{IsLeftBy, IsLeftInSecond}
-use Rattle.second_runs.specs.Moments.{both_of, moment_of}
+use Rattle.second_runs.specs.Moments.{both_of}
 use Rattle.second_runs.specs.Opened.{held_of}
 use Rattle.second_runs.specs.Outcomes.{AreStores, RanSecond, pairs_of}
-use Rattle.second_runs.proofs.Causes.{cause_more}
-use Rattle.second_runs.proofs.Finished.{done_as, done_both}
 use Rattle.second_runs.proofs.Handing.{access_by, faults_of, handed, opened_adds, opened_generation, unopened_reread}
 use Rattle.second_runs.proofs.Reading.{reads_add, reads_left}
 use Rattle.second_runs.proofs.opening.with_second.Goals as goal
@@ -128,7 +129,9 @@ returns-in-Err-clause-kept g c = if_refused c.unopened.result _ _ (λ reason is.
 pub returns-in-Err-clause-stopped : goal.returns-in-Err-clause-stopped
 returns-in-Err-clause-stopped g c told t u heard own is kept =
     if_fault c.unopened.result _ _
-    (λ cause line early. inl (early_as _ _ (no_store file.Second c.in-Err.field-0.fault (g.R.StoreDevice.content c.args.second) (c.in-Err.ensures.unopened.fault u)) _ _ cause line early))
+    (λ cause line early. inl (unstarted _ _
+    (no_store file.Second c.in-Err.field-0.fault (g.R.StoreDevice.content c.args.second)
+    (c.in-Err.ensures.unopened.fault u)) _ _ refl refl cause line early))
     (c.unopened.ensures.stopped heard)
 
 pub returns-in-Err-clause-sound : goal.returns-in-Err-clause-sound
@@ -147,8 +150,11 @@ returns-in-Err-clause-second_left g c told t u own is trusted =
 
 pub returns-in-Err-clause-cause : goal.returns-in-Err-clause-cause
 returns-in-Err-clause-cause g c =
-    cause_more (g.W.Tree.state c.args.world.now).faults (g.W.Spawner.runs c.args.world.now).faults (g.K.Sink.faults c.args.out.now)
-    (g.W.Tree.state c.args.world.now).faults (g.W.Spawner.runs c.args.world.now).faults (g.K.Sink.faults c.unopened.new.out)
-    (g.R.StoreDevice.store_faults c.args.second) (g.R.StoreDevice.store_faults c.in-Err.field-0.store) _ _
-    (state_in c.args.local).faults c.unopened.result (omega arith) (omega arith)
-    (c.unopened.ensures.cause (g.W.Tree.state c.args.world.now).faults (g.W.Spawner.runs c.args.world.now).faults (g.R.StoreDevice.store_faults c.args.second) (g.R.StoreDevice.store_faults c.in-Err.field-0.store) c.in-Err.ensures.unopened.cause)
+    let tree = (g.W.Tree.state c.args.world.now).faults in
+    let start = (g.W.Spawner.runs c.args.world.now).faults in
+    let before = g.R.StoreDevice.store_faults c.args.second in
+    let after = g.R.StoreDevice.store_faults c.in-Err.field-0.store in
+    cause_in_sum tree tree start start (g.K.Sink.faults c.args.out.now)
+    (g.K.Sink.faults c.unopened.new.out) before after (state_in c.args.local).faults _ _
+    c.unopened.result (omega arith) (omega arith)
+    (c.unopened.ensures.cause tree start before after c.in-Err.ensures.unopened.cause)

@@ -6,20 +6,22 @@ use Rattle.compact.specs.declared.side.Side.TheVariants.{First, Spare}
 use Rattle.compact.specs.Current.{generation_in}
 use Rattle.answers.specs.Answers.{IfDone}
 use Rattle.answers.specs.Stops.{IfFault}
-use Rattle.answers.specs.Facts.{if_fault, if_refused, early_as}
+use Rattle.answers.specs.Facts.{if_fault, if_refused}
+use Rattle.answers.specs.Moments.{moment_of}
+use Rattle.cache_runs.proofs.Causes.{cause_in_sum}
+use Rattle.cache_runs.proofs.Finished.{done_all, refused_all}
+use Rattle.cache_runs.proofs.Stopped.{unstarted}
 use Rattle.store_answers.specs.Stores.{held_by}
 use Rattle.second_runs.specs.Images.{IsLeftInLocal, IsLeftInSecond, IsLeftOfLocal, IsTrustedSecond}
-use Rattle.second_runs.specs.Moments.{both_of, moment_of}
+use Rattle.second_runs.specs.Moments.{both_of}
 use Rattle.second_runs.specs.Outcomes.{RanSecond}
 use Rattle.second_runs.specs.Refused.{IsNoneBehind}
 use Rattle.second_runs.specs.Stops.{StopsSecond}
 use Rattle.refusals.specs.declared.refusal.StoreFile.TheVariants as file
-use Rattle.second_runs.proofs.Causes.{cause_more}
 use Rattle.second_runs.proofs.Currents.{are_opened, counted_of, held_now_first, held_now_spare}
 use Rattle.second_runs.proofs.Currents.{held_was_first, held_was_spare, mid_generation, none_first}
 use Rattle.second_runs.proofs.Currents.{none_of, none_spare, raised_of, rests_of}
 use Rattle.second_runs.proofs.Currents.{still_first, still_spare, turn_generation}
-use Rattle.second_runs.proofs.Finished.{done_always, refused_always}
 use Rattle.second_runs.proofs.Handing.{access_there}
 use Rattle.second_runs.proofs.Reading.{adds_then, alone, alone_reread, ends_behind, left_then}
 use Rattle.second_runs.proofs.Reading.{reads_add, reads_left, reread_then}
@@ -65,7 +67,9 @@ returns-in-Ok-First-clause-current g c t v u =
     let turn = found.result.2 in
     let x = are_opened s p store mid spare turn found.result.0 c.in-Ok-First.field-0 First c.in-Ok-First.is (rw c.in-Ok-First.is at c.in-Ok-First.field-0-is) (found.ensures.side t v) (found.ensures.first t) (found.ensures.spare v) in
     let behind = ends_behind s mid c.with_local-answer.result.1 c.args.access.local_puts (c.with_local-answer.ensures.sound t u) x.first.rests.alone (g.met.S.StoreDevice.counts_now c.with_local-answer.result.1) (g.met.S.StoreDevice.as_it_reads c.with_local-answer.result.1 t) in
-    done_always _ c.with_local-answer.result.0 (still_first s p store mid spare turn First x c.args.access.local_puts c.with_local-answer.result.1 behind)
+    let still = still_first s p store mid spare turn First x c.args.access.local_puts
+    c.with_local-answer.result.1 behind in
+    done_all _ c.with_local-answer.result.0 (λ status. still)
 
 pub returns-in-Ok-First-clause-spare_lasts : goal.returns-in-Ok-First-clause-spare_lasts
 returns-in-Ok-First-clause-spare_lasts g c v reads =
@@ -76,7 +80,9 @@ returns-in-Ok-First-clause-spare_lasts g c v reads =
     let spare = c.args.spare in
     let mid = found.result.1 in
     let turn = found.result.2 in
-    done_always _ c.with_local-answer.result.0 (rests_of p spare turn found.result.0 c.in-Ok-First.field-0 c.in-Ok-First.is (found.ensures.spare v)).rests.alone
+    let still = rests_of p spare turn found.result.0 c.in-Ok-First.field-0 c.in-Ok-First.is
+    (found.ensures.spare v) in
+    done_all _ c.with_local-answer.result.0 (λ status. still.rests.alone)
 
 pub returns-in-Ok-First-clause-refused : goal.returns-in-Ok-First-clause-refused
 returns-in-Ok-First-clause-refused g c t v u =
@@ -199,10 +205,13 @@ returns-in-Ok-First-clause-cause g c =
     let turn = found.result.2 in
     let r = g.R.StoreDevice in
     let same = counted_of (s.store_faults store) (s.store_faults mid) (p.store_faults spare) (p.store_faults turn) found.result.0 c.in-Ok-First.field-0 c.in-Ok-First.is found.ensures.cause in
-    cause_more (g.W.Tree.state c.args.world.now).faults (g.W.Spawner.runs c.args.world.now).faults (g.K.Sink.faults c.args.out.now)
-    (g.W.Tree.state c.with_local-answer.new.world).faults (g.W.Spawner.runs c.with_local-answer.new.world).faults (g.K.Sink.faults c.with_local-answer.new.out)
-    (s.store_faults mid + r.store_faults c.args.second) (s.store_faults c.with_local-answer.result.1 + r.store_faults c.with_local-answer.result.2) _ _
-    (p.store_faults turn) c.with_local-answer.result.0 (omega (arith, same.0, same.1)) (omega arith) c.with_local-answer.ensures.cause
+    let run = c.with_local-answer in
+    cause_in_sum (g.W.Tree.state c.args.world.now).faults (g.W.Tree.state run.new.world).faults
+    (g.W.Spawner.runs c.args.world.now).faults (g.W.Spawner.runs run.new.world).faults
+    (g.K.Sink.faults c.args.out.now) (g.K.Sink.faults run.new.out)
+    (s.store_faults mid + r.store_faults c.args.second)
+    (s.store_faults run.result.1 + r.store_faults run.result.2) (p.store_faults turn) _ _
+    run.result.0 (omega (arith, same.0, same.1)) (omega arith) run.ensures.cause
 
 -- ---- the spare one is current
 
@@ -235,7 +244,9 @@ returns-in-Ok-Spare-clause-current g c t v u =
     let turn = found.result.2 in
     let x = are_opened s p store mid spare turn found.result.0 c.in-Ok-Spare.field-0 Spare c.in-Ok-Spare.is (rw c.in-Ok-Spare.is at c.in-Ok-Spare.field-0-is) (found.ensures.side t v) (found.ensures.first t) (found.ensures.spare v) in
     let behind = ends_behind p turn c.with_local-answer-in-Ok-Spare.result.1 c.args.access.local_puts (c.with_local-answer-in-Ok-Spare.ensures.sound v u) x.second.rests.alone (g.met.P.StoreDevice.counts_now c.with_local-answer-in-Ok-Spare.result.1) (g.met.P.StoreDevice.as_it_reads c.with_local-answer-in-Ok-Spare.result.1 v) in
-    done_always _ c.with_local-answer-in-Ok-Spare.result.0 (still_spare s p store mid spare turn Spare x c.args.access.local_puts c.with_local-answer-in-Ok-Spare.result.1 behind)
+    let still = still_spare s p store mid spare turn Spare x c.args.access.local_puts
+    c.with_local-answer-in-Ok-Spare.result.1 behind in
+    done_all _ c.with_local-answer-in-Ok-Spare.result.0 (λ status. still)
 
 pub returns-in-Ok-Spare-clause-lasts : goal.returns-in-Ok-Spare-clause-lasts
 returns-in-Ok-Spare-clause-lasts g c t reads =
@@ -246,7 +257,9 @@ returns-in-Ok-Spare-clause-lasts g c t reads =
     let spare = c.args.spare in
     let mid = found.result.1 in
     let turn = found.result.2 in
-    done_always _ c.with_local-answer-in-Ok-Spare.result.0 (rests_of s store mid found.result.0 c.in-Ok-Spare.field-0 c.in-Ok-Spare.is (found.ensures.first t)).rests.alone
+    let still = rests_of s store mid found.result.0 c.in-Ok-Spare.field-0 c.in-Ok-Spare.is
+    (found.ensures.first t) in
+    done_all _ c.with_local-answer-in-Ok-Spare.result.0 (λ status. still.rests.alone)
 
 pub returns-in-Ok-Spare-clause-refused : goal.returns-in-Ok-Spare-clause-refused
 returns-in-Ok-Spare-clause-refused g c t v u =
@@ -369,10 +382,13 @@ returns-in-Ok-Spare-clause-cause g c =
     let turn = found.result.2 in
     let r = g.R.StoreDevice in
     let same = counted_of (s.store_faults store) (s.store_faults mid) (p.store_faults spare) (p.store_faults turn) found.result.0 c.in-Ok-Spare.field-0 c.in-Ok-Spare.is found.ensures.cause in
-    cause_more (g.W.Tree.state c.args.world.now).faults (g.W.Spawner.runs c.args.world.now).faults (g.K.Sink.faults c.args.out.now)
-    (g.W.Tree.state c.with_local-answer-in-Ok-Spare.new.world).faults (g.W.Spawner.runs c.with_local-answer-in-Ok-Spare.new.world).faults (g.K.Sink.faults c.with_local-answer-in-Ok-Spare.new.out)
-    (p.store_faults turn + r.store_faults c.args.second) (p.store_faults c.with_local-answer-in-Ok-Spare.result.1 + r.store_faults c.with_local-answer-in-Ok-Spare.result.2) _ _
-    (s.store_faults mid) c.with_local-answer-in-Ok-Spare.result.0 (omega (arith, same.0, same.1)) (omega arith) c.with_local-answer-in-Ok-Spare.ensures.cause
+    let run = c.with_local-answer-in-Ok-Spare in
+    cause_in_sum (g.W.Tree.state c.args.world.now).faults (g.W.Tree.state run.new.world).faults
+    (g.W.Spawner.runs c.args.world.now).faults (g.W.Spawner.runs run.new.world).faults
+    (g.K.Sink.faults c.args.out.now) (g.K.Sink.faults run.new.out)
+    (p.store_faults turn + r.store_faults c.args.second)
+    (p.store_faults run.result.1 + r.store_faults run.result.2) (s.store_faults mid) _ _
+    run.result.0 (omega (arith, same.0, same.1)) (omega arith) run.ensures.cause
 
 -- ---- one of them is no store
 
@@ -385,14 +401,20 @@ returns-in-Err-clause-refused g c t v u =
 
 pub returns-in-Err-clause-second_reread : goal.returns-in-Err-clause-second_reread
 returns-in-Err-clause-second_reread g c u =
-    refused_always _ c.not_current.result (alone_reread g.R.StoreDevice c.args.second (g.met.R.StoreDevice.only_now c.args.second))
+    let same = alone_reread g.R.StoreDevice c.args.second
+    (g.met.R.StoreDevice.only_now c.args.second) in
+    refused_all _ c.not_current.result (λ reason. same)
 
 pub returns-in-Err-clause-stopped : goal.returns-in-Err-clause-stopped
 returns-in-Err-clause-stopped g c told t v u heard kept =
     let found = c.current-found in
     if_fault c.not_current.result _ _
-    (λ cause line early. inl (early_as _ _ (none_of c.args.access c.requires.reads (g.S.StoreDevice.content c.args.store) (g.P.StoreDevice.content c.args.spare) (g.R.StoreDevice.content c.args.second)
-    found.result.0 c.in-Err.fault c.in-Err.is (found.ensures.first_fault t) (found.ensures.spare_fault v)) _ _ cause line early)) (c.not_current.ensures.stopped heard)
+    (λ cause line early. inl (unstarted _ _
+    (none_of c.args.access c.requires.reads (g.S.StoreDevice.content c.args.store)
+    (g.P.StoreDevice.content c.args.spare) (g.R.StoreDevice.content c.args.second)
+    found.result.0 c.in-Err.fault c.in-Err.is (found.ensures.first_fault t)
+    (found.ensures.spare_fault v)) _ _ refl refl cause line early))
+    (c.not_current.ensures.stopped heard)
 
 pub returns-in-Err-clause-sound : goal.returns-in-Err-clause-sound
 returns-in-Err-clause-sound g c t v u =
@@ -425,8 +447,12 @@ returns-in-Err-clause-cause g c =
     let found = c.current-found in
     let tree = (g.W.Tree.state c.args.world.now).faults in
     let start = (g.W.Spawner.runs c.args.world.now).faults in
-    cause_more tree start (g.K.Sink.faults c.args.out.now) tree start (g.K.Sink.faults c.not_current.new.out)
-    (s.store_faults c.args.store + p.store_faults c.args.spare) (s.store_faults found.result.1 + p.store_faults found.result.2) _ _
-    (g.R.StoreDevice.store_faults c.args.second) c.not_current.result refl refl
-    (c.not_current.ensures.cause tree start (s.store_faults c.args.store) (s.store_faults found.result.1) (p.store_faults c.args.spare) (p.store_faults found.result.2)
+    let a = s.store_faults c.args.store in
+    let now_a = s.store_faults found.result.1 in
+    let b = p.store_faults c.args.spare in
+    let now_b = p.store_faults found.result.2 in
+    cause_in_sum tree tree start start (g.K.Sink.faults c.args.out.now)
+    (g.K.Sink.faults c.not_current.new.out) (a + b) (now_a + now_b)
+    (g.R.StoreDevice.store_faults c.args.second) _ _ c.not_current.result refl refl
+    (c.not_current.ensures.cause tree start a now_a b now_b
     (raised_of _ _ _ _ found.result.0 c.in-Err.fault c.in-Err.is found.ensures.cause))

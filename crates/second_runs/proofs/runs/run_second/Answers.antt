@@ -4,11 +4,12 @@ use Rattle.std.proofs.Math.Path.{transport}
 use Rattle.answers.specs.Answers.{IfDone}
 use Rattle.answers.specs.Stops.{IfFault}
 use Rattle.answers.specs.Facts.{if_refused, if_fault}
+use Rattle.answers.specs.Moments.{moment_of}
 use Rattle.store_answers.specs.Stores.{held_by, stores_of}
 use Rattle.refusals.specs.declared.refusal.StoreFile.TheVariants as file
 use Rattle.store_answers.specs.Refused.{IsNoStore}
 use Rattle.second_runs.specs.Images.{IsLeftOfLocal}
-use Rattle.second_runs.specs.Moments.{at_moment, both_of, moment_of, nothing}
+use Rattle.second_runs.specs.Moments.{at_moment, both_of, nothing}
 use Rattle.second_runs.specs.Opened.{held_of}
 use Rattle.second_runs.specs.Outcomes.{RanSecond}
 use Rattle.second_runs.specs.Stops.{StopsSecond}

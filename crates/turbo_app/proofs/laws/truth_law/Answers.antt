@@ -5,5 +5,6 @@ use Rattle.turbo_app.proofs.laws.truth_law.Goals as goal
 
 pub returns : goal.returns
 returns g c store spare words book env old steps truth held f s left =
-    truth_by_words book (g.S.StoreDevice.images store) (g.P.StoreDevice.images spare) truth env old held steps f s
+    truth_by_words book (g.S.StoreDevice.images store) (g.P.StoreDevice.images spare) truth env old
+    held steps f s
     (order_of words) left

@@ -4,7 +4,7 @@ use Rattle.run_laws.specs.Runs.{IsReady}
 use Rattle.run_plan.specs.declared.plan.Plan.{Plan}
 use Rattle.run_plan.specs.Openings.{Opening, setting_of, HoldsInputs}
 use Rattle.run_plan.specs.Plans.{IsValidPlan}
-use Rattle.file_runs.specs.Outcomes.{IsTrusted}
+use Rattle.cache_runs.specs.Openings.{IsTrusted}
 
 pub is_ready : (plan : Plan) (o : Opening) → IsValidPlan plan → IsWellBehaved o.book
     → HoldsInputs plan o.files → IsTrusted o.book plan o.pairs → IsReady (setting_of plan o)
