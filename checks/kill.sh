@@ -1,6 +1,6 @@
 #!/usr/bin/env bash
-# Kills the built program at random moments, in runs and in compactions, and looks each time whether the next run
-# prints, leaves and stores what a run without a cache would.
+# Kills the built program at random moments, in runs over one store, over two and over a shared file, and in compactions,
+# and looks each time whether the next run prints, leaves and stores what a run without a cache would.
 #
 #     checks/kill.sh PROGRAM [TIMES] [SEED]
 #
@@ -81,6 +81,11 @@ fault() {
     exit 1
 }
 
+export TURBO_REMOTE_STORE=$work/remote.turb TURBO_SHARED_STORE=$work/shared.turb
+
+# Which stores a run uses.
+stores=("--cache=local:rw" "--cache=local:rw,remote:rw" "--cache=remote:rw" "--shared")
+
 run_killed=0
 run_ended=0
 compact_killed=0
@@ -102,9 +107,10 @@ kill_one() {
     settle "$child"
 }
 
-# The next run ends well, and all is as without a cache.
+# The next run over the same stores ends well, and all is as without a cache.
 next_run() {
-    timeout 60 "$program" build --concurrency=4 >"$work/out" 2>"$work/err" || fault "the next run ended with $?: $(cat "$work/err" "$work/out")"
+    local uses=$1
+    timeout 60 "$program" build "$uses" --concurrency=4 >"$work/out" 2>"$work/err" || fault "the next run ended with $?: $(cat "$work/err" "$work/out")"
     grep -q 'no store\|damaged' "$work/out" "$work/err" && fault "$(cat "$work/err")"
     make_wanted
     local name
@@ -112,20 +118,26 @@ next_run() {
         diff -r "$repository/packages/$name/dist" "$wanted/packages/$name/dist" >"$work/diff" || fault "$(cat "$work/diff")"
         grep -q "^$name:build: $(cksum <"$wanted/packages/$name/dist/all.txt")\$" "$work/out" || fault "the log of $name"
     done
-    "$program" build >"$work/out" 2>"$work/err" || fault "the run after it ended with $?"
+    "$program" build "$uses" >"$work/out" 2>"$work/err" || fault "the run after it ended with $?"
     grep -q "${#packages[@]} cached, ${#packages[@]} total" "$work/out" || fault "the run after it: $(tail -2 "$work/out")"
 }
 
 make_repository
 echo "seed: $seed"
 for ((number = 1; number <= times; number++)); do
-    change
     if [ $((RANDOM % 5)) = 0 ]; then
+        # All results are in the local store, and whatever becomes of the compaction they are still.
+        "$program" build >"$work/out" 2>"$work/err" || fault "the run before a compaction ended with $?"
         kill_one compact 25 compact
+        "$program" build >"$work/out" 2>"$work/err" || fault "the run after a compaction ended with $?"
+        grep -q "${#packages[@]} cached, ${#packages[@]} total" "$work/out" || fault "a compaction lost results: $(tail -2 "$work/out")"
+        next_run --cache=local:rw
     else
-        kill_one run 200 build --concurrency=4
+        change
+        uses=${stores[RANDOM % ${#stores[@]}]}
+        kill_one run 200 build "$uses" --concurrency=4
+        next_run "$uses"
     fi
-    next_run
 done
 echo "killed in a run $run_killed, ended before it was killed $run_ended"
 echo "killed in a compaction $compact_killed, ended before it was killed $compact_ended"
