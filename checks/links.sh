@@ -1,5 +1,6 @@
 #!/usr/bin/env bash
-# Checks that each relative link of the README and of docs/ leads to a file, and each anchor to a heading of it.
+# Checks that each relative link of the README and of docs/ leads to a file, and each anchor to a heading of it; that the
+# README leads to each page of docs/, and that docs/ARCHITECTURE.md has each crate.
 set -u
 cd "$(dirname "${BASH_SOURCE[0]}")/.." || exit 1
 failed=0
@@ -32,5 +33,17 @@ for page in README.md docs/*.md; do
         esac
     done < <(grep -oE '\]\([^) ]+\)' "$page" | sed -E 's/^\]\(//; s/\)$//')
 done
+for page in docs/*.md; do
+    if ! grep -qF "($page)" README.md; then
+        echo "links: README.md: no link to $page" >&2
+        failed=1
+    fi
+done
+while read -r crate; do
+    if ! grep -qF "\`$crate\`" docs/ARCHITECTURE.md; then
+        echo "links: docs/ARCHITECTURE.md: nothing of $crate" >&2
+        failed=1
+    fi
+done < <(sed -E 's/#.*//; s/[ :].*//; /^$/d' crates.txt)
 [ "$failed" = 0 ] && echo "links: all lead somewhere"
 exit "$failed"
