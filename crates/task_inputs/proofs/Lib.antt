@@ -5,4 +5,5 @@ mod Homes
 mod Places
 mod ReadTasks
 mod Rows
+mod WideLists
 mod Kept

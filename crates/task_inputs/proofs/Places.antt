@@ -223,13 +223,6 @@ near_next files place d old new less near below adds = subst (λ (fs : List File
       let is : new ≡ set old home (get_or old home [] ++ length (take place files) ∷ []) = put ∙ ap (λ n. set old home (get_or old home [] ++ n ∷ [])) (sym count) in
       rw is (near_put (take place files) (get_or files place d) old home near e b, length-set old home (get_or old home [] ++ length (take place files) ∷ []))
 
--- every place
-pub places_each : (xs : List FileFacts) (i : ℕ) → i < length xs → places (λ (f : FileFacts). true) (take (i + 1) xs) ≡ places (λ (f : FileFacts). true) (take i xs) ++ i ∷ []
-places_each xs i less = by xs refl less where
-  by : (ys : List FileFacts) → ys ≡ xs → i < length xs → places (λ (f : FileFacts). true) (take (i + 1) xs) ≡ places (λ (f : FileFacts). true) (take i xs) ++ i ∷ []
-  by [] e l = absurd (omega (arith, ap length e))
-  by (y ∷ ys) e l = places_more (λ (f : FileFacts). true) xs i (get_or xs i y) l (get_or_default xs i y (get_or xs i y) l)
-
 -- ---- one step of the union
 
 module _ (x y : ℕ) (more_xs more_ys xs ys both whole new : List ℕ) (is_x : xs ≡ x ∷ more_xs) (is_y : ys ≡ y ∷ more_ys) where
@@ -261,3 +254,21 @@ pub each_at : {X : Type 0} (P : X → Type 0) (xs : List X) (i : ℕ) (d : X) �
 each_at P [] i d less all = absurd (omega (arith, less))
 each_at P (x ∷ xs) zero d less all = all.0
 each_at P (x ∷ xs) (suc i) d less all = each_at P xs i d (omega (arith, less)) all.1
+
+-- what holds of each number of two lists holds of each of both together
+pub all_merged : (P : ℕ → Type 0) (n : ℕ) (xs ys : List ℕ) → AllByRecursion P xs → AllByRecursion P ys → AllByRecursion P (merged n xs ys)
+unfolding merged
+all_merged P zero xs ys a b = tt
+all_merged P (suc n) [] ys a b = b
+all_merged P (suc n) (x ∷ xs) [] a b = a
+all_merged P (suc n) (x ∷ xs) (y ∷ ys) a b = by (nat_lt x y) (x == y) (all_merged P n xs (y ∷ ys) a.1 b) (all_merged P n xs ys a.1 b.1) (all_merged P n (x ∷ xs) ys a b.1) where
+  by : (s t : Bool) → AllByRecursion P (merged n xs (y ∷ ys)) → AllByRecursion P (merged n xs ys) → AllByRecursion P (merged n (x ∷ xs) ys) → AllByRecursion P (cond s (x ∷ merged n xs (y ∷ ys)) (cond t (x ∷ merged n xs ys) (y ∷ merged n (x ∷ xs) ys)))
+  by true t less same more = (a.0, less)
+  by false true less same more = (a.0, same)
+  by false false less same more = (b.0, more)
+
+-- nothing passes a test that always fails
+pub none_pass : {X : Type 0} (test : X → Bool) (xs : List X) → ((x : X) → test x ≡ false) → places test xs ≡ []
+unfolding places
+none_pass test [] fails = refl
+none_pass test (x ∷ xs) fails = rw (fails x, none_pass test xs fails) refl

@@ -1,13 +1,14 @@
 -- The places of the files that a task takes.
-use Rattle.std.proofs.Common.{◌≡◌, ◌==◌, ◌&&◌, ◌||◌, ℕ, zero, suc, ◌<◌, Bool, true, false, cond, List, [], ◌∷◌, ◌++◌, length, map, filter, get_or, refl, sym, ap, ◌∙◌, subst, arith}
-use Rattle.std.specs.Prelude.{Option, Some, None, IfSome, not, codes}
+use Rattle.std.proofs.Common.{◌≡◌, ◌==◌, ◌&&◌, ◌||◌, ℕ, zero, suc, ◌+◌, ◌<◌, Bool, true, false, cond, List, [], ◌∷◌, ◌++◌, length, map, filter, get_or, refl, sym, ap, ◌∙◌, subst, arith}
+use Rattle.std.specs.Prelude.{Option, Some, None, IfSome, Result, Ok, Err, IfOk, not, codes}
 use Rattle.std.specs.Option.{option_map}
-use Rattle.std.specs.List.{slice_get, list_any, AllByRecursion}
+use Rattle.std.specs.List.{slice_get, AllByRecursion}
 use Rattle.std.proofs.lemmas.Bool.{false≢true, eqb-true, eq-eqb}
 use Rattle.std.proofs.lemmas.List.{length-map}
 use Rattle.std.proofs.lemmas.Option.{slice_get_within, get_or_from_slice_get}
 use Rattle.rel_path.specs.Paths.{Path, path_eq}
 use Rattle.globs.specs.Lists.{is_kind}
+use Rattle.globs.specs.Match.{matches}
 use Rattle.workspaces.specs.declared.member.Package.{Package}
 use Rattle.workspaces.specs.Lists.{places}
 use Rattle.workspaces.specs.Space.{is_home_of, is_root_folder, manifest_in, manifest_name}
@@ -21,10 +22,11 @@ use Rattle.task_inputs.specs.declared.files.FileFacts.{FileFacts}
 use Rattle.task_inputs.specs.declared.table.Table.{Table}
 use Rattle.task_inputs.specs.declared.tasks.TaskGlobs.{TaskGlobs}
 use Rattle.task_inputs.specs.Homes.{Home, home_of, folders_of, is_declared, is_home}
-use Rattle.task_inputs.specs.Entries.{entries_of, has_default, rest_where, matches_from, any_reaches, is_wide}
+use Rattle.task_inputs.specs.Entries.{entries_of, has_default, rest_where, matches_from, any_reaches, is_wide, any_wide}
 use Rattle.task_inputs.specs.Inputs.{may_count, is_input, is_asked, is_explicit, is_default, is_global, always_counts, input_row, row_of}
-use Rattle.task_inputs.specs.Facts.{place_by, home_place, may_count_in, fact_by, is_at, IsList, IsRead, is_wide_list, asked_by, takes_by, AreHomesBelow}
+use Rattle.task_inputs.specs.Facts.{place_by, home_place, may_count_in, fact_by, is_at, IsList, IsRead, asked_by, takes_by, merged, AreHomesBelow}
 use Rattle.task_inputs.specs.Tables.{unknown, takes_at, IsTable, close, looked, IsLooked, IsRowOf}
+use Rattle.task_inputs.specs.WideLists.{wide_by}
 use Rattle.task_inputs.specs.Folders.{AreHomes}
 use Rattle.task_inputs.proofs.Homes.{get-map, got-map, any-map, some_same, not_true, is_its, place_is, file_its}
 use Rattle.task_inputs.proofs.Places.{places-map, merged_places}
@@ -55,7 +57,7 @@ home_is homes path n e = by_passes (is_its homes path) homes n e
 
 -- ---- where a task looks
 
-places_below : {X : Type 0} (test : X → Bool) (xs : List X) → AllByRecursion (λ k. k < length xs) (places test xs)
+pub places_below : {X : Type 0} (test : X → Bool) (xs : List X) → AllByRecursion (λ k. k < length xs) (places test xs)
 unfolding places
 places_below test [] = tt
 places_below test (x ∷ xs) = by (test x) (shifted (places test xs) (places_below test xs)) where
@@ -82,8 +84,8 @@ module _ (ignored : Path → Bool) (homes : List Home) (taken : List (List ℕ))
   pub looked_well : (place : ℕ) → place < length homes → IsLooked walk place table
   looked_well place less = record {
     same = same_length;
+    few = is.few;
     stands = omega (arith, less, is.count);
-    wide = subst (AllByRecursion (λ k. k < length walk)) (sym is.all) (below_walk (λ (f : FileFacts). true));
     narrow = subst (AllByRecursion (λ k. k < length walk)) (sym (close_is place less)) (below_walk (λ (f : FileFacts). is_at f.home place || f.global));
   }
 
@@ -140,20 +142,20 @@ module _ (setup : Setup) (members : List Package) (path : Path) where
             let its : is_its (map (home_of setup) members) path (home_of setup p) ≡ true = ap (λ (m : Package). is_its (map (home_of setup) members) path (home_of setup m)) (sym same) ∙ ap (is_its (map (home_of setup) members) path) q.2 ∙ h.2 in
             absurd (false≢true (sym e ∙ sym (its_is p) ∙ its))
 
--- an entry that reaches a path outside of the folder, and does not exclude, is one of the root
-wide_entry : (entry : InputGlob) (path : Path) → (is_kind entry.excluded false && matches_from entry.base entry.glob path None) ≡ true → is_wide entry ≡ true
+-- an entry that reaches a path outside of the folder, and does not exclude, is one of the root that matches it
+wide_entry : (entry : InputGlob) (path : Path) → (is_kind entry.excluded false && matches_from entry.base entry.glob path None) ≡ true → (is_wide entry && matches entry.glob path) ≡ true
 wide_entry entry path e = by entry.base refl entry.excluded refl e where
-  by : (base : Base) → entry.base ≡ base → (x : Bool) → entry.excluded ≡ x → (is_kind x false && matches_from base entry.glob path None) ≡ true → is_wide entry ≡ true
-  by Root b false x f = rw (b, x) refl
+  by : (base : Base) → entry.base ≡ base → (x : Bool) → entry.excluded ≡ x → (is_kind x false && matches_from base entry.glob path None) ≡ true → (is_wide entry && matches entry.glob path) ≡ true
+  by Root b false x f = rw (b, x) f
   by Root b true x f = cc
   by Owner b false x f = cc
   by Owner b true x f = cc
 
-no_reach : (entries : List InputGlob) (path : Path) → list_any is_wide entries ≡ false → any_reaches false entries path None ≡ false
-unfolding any_reaches
+no_reach : (entries : List InputGlob) (path : Path) → any_wide entries path ≡ false → any_reaches false entries path None ≡ false
+unfolding any_reaches any_wide
 no_reach [] path none = refl
-no_reach (entry ∷ entries) path none = by (is_kind entry.excluded false && matches_from entry.base entry.glob path None) refl (is_wide entry) refl none (no_reach entries path) where
-  by : (b : Bool) → (is_kind entry.excluded false && matches_from entry.base entry.glob path None) ≡ b → (w : Bool) → is_wide entry ≡ w → (w || list_any is_wide entries) ≡ false → (list_any is_wide entries ≡ false → any_reaches false entries path None ≡ false) → (b || any_reaches false entries path None) ≡ false
+no_reach (entry ∷ entries) path none = by (is_kind entry.excluded false && matches_from entry.base entry.glob path None) refl (is_wide entry && matches entry.glob path) refl none (no_reach entries path) where
+  by : (b : Bool) → (is_kind entry.excluded false && matches_from entry.base entry.glob path None) ≡ b → (w : Bool) → (is_wide entry && matches entry.glob path) ≡ w → (w || any_wide entries path) ≡ false → (any_wide entries path ≡ false → any_reaches false entries path None ≡ false) → (b || any_reaches false entries path None) ≡ false
   by true e true f g more = absurd (false≢true (sym g))
   by true e false f g more = absurd (false≢true (sym f ∙ wide_entry entry path e))
   by false e true f g more = absurd (false≢true (sym g))
@@ -197,24 +199,29 @@ module _ (ignored : Path → Bool) (setup : Setup) (members : List Package) (are
   unfolding takes_by fact_by is_input
   tie path = rw (may_is setup members path, asked_is path (is_at (home_place (map (home_of setup) members) path) task.place) (own_is path), r.folder) refl
 
-  not_asked : (path : Path) → is_wide_list task.inputs ≡ false → is_home members r.member path ≡ false → is_asked ignored members r.member t.def.inputs path ≡ false
+  not_asked : (path : Path) → wide_by task.inputs path ≡ false → is_home members r.member path ≡ false → is_asked ignored members r.member t.def.inputs path ≡ false
   unfolding is_explicit
-  not_asked path thin away = by t.def.inputs task.inputs r.inputs thin where
-    by : (texts : Option (List (List ℕ))) (inputs : Option InputList) → IsList texts inputs → is_wide_list inputs ≡ false → is_asked ignored members r.member texts path ≡ false
+  not_asked path none away = by t.def.inputs task.inputs r.inputs none where
+    by : (texts : Option (List (List ℕ))) (inputs : Option InputList) → IsList texts inputs → wide_by inputs path ≡ false → is_asked ignored members r.member texts path ≡ false
     by None inputs l w = ap (λ b. b && not (ignored path)) away
     by (Some texts) None l w = absurd l
     by (Some texts) (Some list) l w =
-        let reach : any_reaches false (entries_of texts) path None ≡ false = no_reach (entries_of texts) path (ap (list_any is_wide) (sym l.0) ∙ w) in
+        let reach : any_reaches false (entries_of texts) path None ≡ false = no_reach (entries_of texts) path (ap (λ es. any_wide es path) (sym l.0) ∙ w) in
         rw (away, reach) (none_left (has_default texts) (any_reaches true (entries_of texts) path None))
 
-  -- a file that it takes is near or global, unless it has a glob of the root
-  pub narrow : (path : Path) → is_wide_list task.inputs ≡ false → is_input ignored setup members r.member t.def path ≡ true → (is_at (home_place (map (home_of setup) members) path) task.place || is_global setup path) ≡ true
+  -- its home is the task's owner, or it is global
+  abbrev near : Path → Bool
+  near path = is_at (home_place (map (home_of setup) members) path) task.place || is_global setup path
+
+  -- a file that it takes is near or global, or a glob of the root matches it
+  pub narrow : (path : Path) → is_input ignored setup members r.member t.def path ≡ true → (near path || wide_by task.inputs path) ≡ true
   unfolding is_input
-  narrow path thin takes = by (is_home members r.member path) refl (is_global setup path) refl where
-    by : (h : Bool) → is_home members r.member path ≡ h → (g : Bool) → is_global setup path ≡ g → (is_at (home_place (map (home_of setup) members) path) task.place || g) ≡ true
-    by true e g f = rw (own_is path, e) refl
-    by false e true f = or_true (is_at (home_place (map (home_of setup) members) path) task.place)
-    by false e false f = absurd (false≢true (sym (rw (never_always members r.member path e, not_asked path thin e, f) (and_none (may_count setup members path))) ∙ takes))
+  narrow path takes = by (is_home members r.member path) refl (is_global setup path) refl (wide_by task.inputs path) refl where
+    by : (h : Bool) → is_home members r.member path ≡ h → (g : Bool) → is_global setup path ≡ g → (w : Bool) → wide_by task.inputs path ≡ w → ((is_at (home_place (map (home_of setup) members) path) task.place || g) || w) ≡ true
+    by h e g f true k = or_true (is_at (home_place (map (home_of setup) members) path) task.place || g)
+    by true e g f false k = rw (own_is path, e) refl
+    by false e true f false k = rw (or_true (is_at (home_place (map (home_of setup) members) path) task.place)) refl
+    by false e false f false k = absurd (false≢true (sym (rw (never_always members r.member path e, not_asked path k e, f) (and_none (may_count setup members path))) ∙ takes))
 
 -- ---- the row of a task
 
@@ -233,16 +240,26 @@ module _ (ignored : Path → Bool) (setup : Setup) (members : List Package) (wal
     places_of : (test : FileFacts → Bool) → places test table.files.items ≡ places (λ path. test (fact_by ignored (map (home_of setup) members) setup.globals.inputs path)) walk
     places_of test = ap (places test) is.files ∙ places-map (fact_by ignored (map (home_of setup) members) setup.globals.inputs) test walk
 
-    pub row_taken : filter (takes_at task table.files.items walk) (looked task table) ≡ places (is_input ignored setup members r.member t.def) walk
+    -- the task looks at files near its owner, global files and those that its globs of the root match
+    abbrev looks : Path → Bool
+    looks path = near ignored setup members are t task r path || wide_by task.inputs path
+
+    looked_is : looked table task.place (places (wide_by task.inputs) walk) ≡ places looks walk
     unfolding fact_by
-    row_taken = by (is_wide_list task.inputs) refl where
-      by : (w : Bool) → is_wide_list task.inputs ≡ w → filter (takes_at task table.files.items walk) (cond w table.all.items (close table task.place)) ≡ places (is_input ignored setup members r.member t.def) walk
-      by true e =
-          ap (filter (takes_at task table.files.items walk)) (is.all ∙ places_of (λ (f : FileFacts). true))
-          ∙ filter_places (λ path. true) (is_input ignored setup members r.member t.def) (takes_at task table.files.items walk) walk at_same (λ path h. refl)
-      by false e =
-          ap (filter (takes_at task table.files.items walk)) (close_is ignored (map (home_of setup) members) setup.globals.inputs walk table is task.place place_home ∙ places_of (λ (f : FileFacts). is_at f.home task.place || f.global))
-          ∙ filter_places (λ path. is_at (home_place (map (home_of setup) members) path) task.place || is_global setup path) (is_input ignored setup members r.member t.def) (takes_at task table.files.items walk) walk at_same (λ path h. narrow ignored setup members are t task r path e h)
+    looked_is =
+        let close_walk : close table task.place ≡ places (near ignored setup members are t task r) walk = close_is ignored (map (home_of setup) members) setup.globals.inputs walk table is task.place place_home ∙ places_of (λ (f : FileFacts). is_at f.home task.place || f.global) in
+        ap (λ (ks : List ℕ). merged (length ks + length (places (wide_by task.inputs) walk)) ks (places (wide_by task.inputs) walk)) close_walk
+        ∙ merged_places (near ignored setup members are t task r) (wide_by task.inputs) walk _ (omega arith)
+
+    pub row_taken : filter (takes_at task table.files.items walk) (looked table task.place (places (wide_by task.inputs) walk)) ≡ places (is_input ignored setup members r.member t.def) walk
+    row_taken =
+        ap (filter (takes_at task table.files.items walk)) looked_is
+        ∙ filter_places looks (is_input ignored setup members r.member t.def) (takes_at task table.files.items walk) walk at_same (λ path h. narrow ignored setup members are t task r path h)
 
   pub row_is : (row : List ℕ) → IsRowOf members walk table t row → row ≡ input_row ignored setup members walk t
   row_is row r = r.taken ∙ row_taken r.task r.read ∙ sym (ap (row_of ignored setup members walk t.def) r.read.stands)
+
+-- what is there has what follows from what it has
+pub with_ok : {T E : Type 0} (P Q : T → Type 0) (r : Result T E) → ((x : T) → P x → Q x) → IfOk r P → IfOk r Q
+with_ok P Q (Ok x) so p = so x p
+with_ok P Q (Err e) so p = p

@@ -4,6 +4,7 @@ pub mod Entries
 pub mod Inputs
 pub mod Folders
 pub mod Facts
+pub mod WideLists
 pub mod Tables
 pub mod Ignores
 pub mod Rooted

@@ -1,5 +1,5 @@
 // What is known of the walked files, whatever task is asked about.
-ghost use Rattle.std.specs.Prelude.{◌≡◌, ◌<◌, ◌^◌, ◌++◌, ◌∷◌, [], length, map, true, if◌then◌else◌, IfOk, IfSome, OnOk};
+ghost use Rattle.std.specs.Prelude.{◌≡◌, ◌<◌, ◌^◌, ◌++◌, ◌∷◌, [], length, map, if◌then◌else◌, IfOk, IfSome, OnOk};
 ghost use Rattle.rel_path.specs.Paths.{path_eq};
 ghost use Rattle.ignore_rules.specs.Ignored.{is_ignored};
 ghost use Rattle.ignore_rules.specs.Stacks.{rules_in};
@@ -83,7 +83,8 @@ pub(crate) fn facts_of(
     Ok(files)
 }
 
-fn add_place(found: &mut Vec<u32>, place: u32, is_one: bool) -> Result<(), ListErr>
+/// Puts the place behind the others, if it is one of them.
+pub(crate) fn add_place(found: &mut Vec<u32>, place: u32, is_one: bool) -> Result<(), ListErr>
     ensures added { OnOk result
         (found.new.items ≡ found.old.items ++ (if is_one then place ∷ [] else [])) }
     ensures memory { OnlyMemory result }
@@ -147,19 +148,6 @@ pub(crate) fn global_places(alloc: Global, files: &[FileFacts]) -> Result<Vec<u3
     let mut found = Vec::new(alloc);
     for (place, file) in files.iter().enumerate() {
         add_place(&mut found, place as u32, file.global)?;
-    }
-    Ok(found)
-}
-
-/// The places of all files.
-pub(crate) fn all_places(alloc: Global, files: &[FileFacts]) -> Result<Vec<u32>, ListErr>
-    requires few { length files.now < 2 ^ 32 }
-    ensures places { IfOk result (λ found. found.items ≡ places (λ f. true) files.now) }
-    ensures memory { OnlyMemory result }
-{
-    let mut found = Vec::new(alloc);
-    for (place, _file) in files.iter().enumerate() {
-        found.push(place as u32)?;
     }
     Ok(found)
 }

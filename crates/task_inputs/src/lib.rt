@@ -27,6 +27,7 @@ mod relative;
 mod table;
 mod tasks;
 mod union;
+mod wide;
 
 pub use declared::Declared;
 pub use definitions::DefinedTask;

@@ -8,7 +8,7 @@ ghost use Rattle.task_inputs.specs.Folders.{AreHomes};
 ghost use Rattle.task_inputs.specs.Tables.{IsTable, IsLooked, looked, takes_at};
 
 use crate::declared::Declared;
-use crate::files::{FileFacts, all_places, facts_of, global_places, near_places};
+use crate::files::{FileFacts, facts_of, global_places, near_places};
 use crate::tasks::TaskGlobs;
 use crate::union::union;
 use globs::GlobList;
@@ -17,14 +17,13 @@ use listing::ListErr;
 use rel_path::{Places, RelPath};
 use std::alloc::Global;
 
-/// What is known of the walked files: of each of them, the places of those with each home, of those that
-/// `globalDependencies` take, and of all.
+/// What is known of the walked files: of each of them, the places of those with each home, and of those that
+/// `globalDependencies` take.
 #[derive(Drop)]
 pub(crate) struct Table {
     pub files: Vec<FileFacts>,
     pub near: Vec<Places>,
     pub globals: Vec<u32>,
-    pub all: Vec<u32>,
 }
 
 /// What is known of the walked files.
@@ -46,12 +45,10 @@ pub(crate) fn table_of(
     }
     let near = near_places(alloc, declared.count(), files.as_slice())?;
     let globals = global_places(alloc, files.as_slice())?;
-    let all = all_places(alloc, files.as_slice())?;
     Ok(Table {
         files,
         near,
         globals,
-        all,
     })
 }
 
@@ -79,23 +76,24 @@ fn taken_of(
     Ok(taken)
 }
 
-/// The places of the files that the task takes. A task without a glob of the root looks at the files whose home its
-/// owner is and at the global ones alone.
+/// The places of the files that the task takes. It looks at the files whose home its owner is, at the global ones and
+/// at those in these places, which the globs of the root in its list match.
 pub(crate) fn taken_places(
     alloc: Global,
     task: &TaskGlobs,
+    wide: &[u32],
     walk: &[RelPath],
     table: &Table,
 ) -> Result<Places, ListErr>
-    requires { IsLooked walk.now task.now.place table.now }
+    requires looked { IsLooked walk.now task.now.place table.now }
+    requires wide { AllByRecursion (λ k. k < length walk.now) wide.now }
     ensures taken { IfOk result (λ taken. taken ≡ filter
-        (takes_at task.now table.now.files.items walk.now) (looked task.now table.now)) }
+        (takes_at task.now table.now.files.items walk.now)
+        (looked table.now task.now.place wide.now)) }
     ensures memory { OnlyMemory result }
 {
-    if task.is_wide() {
-        return taken_of(alloc, task, walk, &table.files, &table.all);
-    }
     let near = table.near[task.place].as_slice();
-    let places = union(alloc, near, &table.globals)?;
+    let close = union(alloc, near, &table.globals)?;
+    let places = union(alloc, &close, wide)?;
     taken_of(alloc, task, walk, &table.files, &places)
 }

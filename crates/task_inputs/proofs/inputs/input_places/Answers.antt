@@ -1,4 +1,4 @@
-use Rattle.std.proofs.Common.{◌≡◌, ◌∙◌, ◌++◌, ◌∷◌, ◌<◌, [], List, ℕ, sym, ap, subst, map, length, get_or, take, arith}
+use Rattle.std.proofs.Common.{◌≡◌, ◌∙◌, ◌++◌, ◌∷◌, ◌+◌, ◌<◌, [], List, ℕ, sym, ap, subst, map, length, get_or, take, arith}
 use Rattle.std.proofs.lemmas.List.{map_more, length-map}
 use Rattle.ignore_rules.specs.Ignored.{is_ignored}
 use Rattle.ignore_rules.specs.Stacks.{rules_in}
@@ -29,8 +29,10 @@ loop-task-preserved c =
     let task = c.task-item.result in
     let ignored = is_ignored (rules_in c.args.ignores.now) in
     let made : IsTable ignored (map (home_of setup) members) setup.globals.inputs walk table = rw (c.as_slice.ensures, c.requires.declared, c.in_ok-globals.ensures.value) at c.in_ok-table.ensures.table in
-    let row = row_is ignored setup members walk table (subst AreHomes c.requires.declared c.in_ok-table.ensures.homes) made task c.in_ok-task_places.field-0 (rw c.as_slice-in-loop-task.ensures at c.in_ok-task_places.ensures.row) in
+    let row = row_is ignored setup members walk table (subst AreHomes c.requires.declared c.in_ok-table.ensures.homes) made task c.in_ok-row.row (rw c.as_slice-in-loop-task.ensures at c.in_ok-row.ensures.row) in
     let same : get_or c.args.tasks.now c.loop-task.task-index task ≡ task = sym c.task-item.is in
-    c.in_ok-push.ensures.items ∙ ap (λ (r : List ℕ). c.loop-task.rows.items ++ r ∷ []) row ∙ ap (λ (rs : List (List ℕ)). rs ++ input_row ignored setup members walk task ∷ []) c.loop-task.invariant
+    let rows : c.push.new.self.items ≡ map (input_row ignored setup members walk) (take (c.loop-task.task-index + 1) c.args.tasks.now) =
+    c.in_ok-push.ensures.items ∙ ap (λ (r : List ℕ). c.loop-task.rows.items ++ r ∷ []) row ∙ ap (λ (rs : List (List ℕ)). rs ++ input_row ignored setup members walk task ∷ []) c.loop-task.invariant.rows
     ∙ ap (λ (t : DefinedTask). map (input_row ignored setup members walk) (take c.loop-task.task-index c.args.tasks.now) ++ input_row ignored setup members walk t ∷ []) (sym same)
-    ∙ sym (map_more (input_row ignored setup members walk) c.args.tasks.now c.loop-task.task-index task c.loop-task-test.true)
+    ∙ sym (map_more (input_row ignored setup members walk) c.args.tasks.now c.loop-task.task-index task c.loop-task-test.true) in
+    record { rows = rows; lists = rw c.as_slice-in-loop-task.ensures at c.in_ok-row.ensures.lists }
