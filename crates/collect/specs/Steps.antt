@@ -1,15 +1,19 @@
 -- What the steps of collecting a listing answer.
-use Rattle.std.specs.Prelude.{◌≡◌, ◌<◌, ◌≤◌, ◌+◌, ◌==◌, ℕ, Bool, true, false, ◌&&◌, List, [], ◌∷◌, ◌++◌, length, map, filter, zip, get_or, take, sum_by, Option, Some, None, is_some, unwrap_or, Result, Ok, Err, IfErr, find, if◌then◌else◌}
+use Rattle.std.specs.Prelude.{◌≡◌, ◌<◌, ◌≤◌, ◌+◌, ◌==◌, ℕ, Bool, true, false, ◌&&◌, List, [], ◌∷◌, ◌++◌, length, map, filter, zip, get_or, take, sum_by, Option, Some, None, is_some, unwrap_or, Result, Ok, Err, IfErr, IfSome, find, if◌then◌else◌}
 use Rattle.std.specs.Option.{option_map}
-use Rattle.std.specs.List.{AllByRecursion, HoldsAt, slice_get, slice_index_or, list_any, filter_map}
+use Rattle.std.specs.List.{AllByRecursion, HoldsAt, slice_get, slice_index_or, list_any, filter_map, join_with_byte}
 use Rattle.serde_json.specs.Data.{Data}
+use Rattle.serde_json.specs.View.{view}
 use Rattle.rel_path.specs.Paths.{Path}
 use Rattle.rel_path.specs.Files.{FileMap, file_at}
 use Rattle.globs.specs.declared.out_set.OutSet.{OutSet}
 use Rattle.env_select.specs.Choice.{is_hashed, IsChosen}
 use Rattle.ignore_rules.specs.declared.rule.Rule.{Rule}
 use Rattle.ignore_rules.specs.Rules.{rules_of}
+use Rattle.npm_lock.specs.declared.start.Start.{Start}
+use Rattle.npm_lock.specs.Externals.{IsReachIn}
 use Rattle.workspaces.specs.declared.member.Package.{Package}
+use Rattle.workspaces.specs.Edges.{needs_of}
 use Rattle.workspaces.specs.Space.{Space, IsProper, owners, owner_named}
 use Rattle.turbo_config.specs.declared.entry.TaskDef.{TaskDef}
 use Rattle.turbo_config.specs.declared.task_id.TaskId.{TaskId}
@@ -27,8 +31,9 @@ use Rattle.collect.specs.declared.collecting.Plan.{Plan}
 use Rattle.collect.specs.declared.collecting.Rows.{Rows}
 use Rattle.collect.specs.declared.parts.Source.{Source}
 use Rattle.collect.specs.declared.parts.Job.{Job}
+use Rattle.collect.specs.declared.uses.Installed.{Installed}
 use Rattle.folder_globs.specs.Exclusions.{exclusion, IsFolder}
-use Rattle.collect.specs.Parts.{scripts_of, package_folders, texts_at, Uses}
+use Rattle.collect.specs.Parts.{scripts_of, starts_from, package_folders, texts_at, Uses}
 use Rattle.collect.specs.Listings.{ArePaired, with_bytes}
 use Rattle.collect.specs.Refusals.{is_large, first_large, IsMissingOf}
 use Rattle.rel_path.specs.Limits.{sum_limit}
@@ -55,14 +60,33 @@ GivesUses space lock p (Err (TooMuch bytes)) = ⊥
 GivesUses space lock p (Err Failed) = ⊥
 GivesUses space lock p (Err OutOfMemory) = Unit {0}
 
+-- what is looked up for an owner from its folder
+abbrev pub own_starts : Space → Package → List Start
+own_starts space p = starts_from (join_with_byte 47 p.folder) (needs_of space.packages p.manifest)
+
+-- what is looked up for every owner from the root
+abbrev pub root_starts : Space → List Start
+root_starts space = starts_from [] (needs_of space.packages space.root)
+
+abbrev pub lock_in : Option Installed → Option Data
+lock_in installed = option_map (λ i. view i.lock.now) installed
+
+-- what the root needs reaches this in the lockfile
+pub record IsRootReach (space : Space) (i : Installed) : Type 0 where
+  pub starts : i.root.starts ≡ root_starts space
+  pub reached : IsReachIn (view i.lock.now) i.root
+
+abbrev pub IsFitInstalled : Space → Option Installed → Type 0
+IsFitInstalled space installed = IfSome installed (IsRootReach space)
+
 -- the installed packages that the owner of this number uses
 abbrev pub UsesAt : Space → Option Data → ℕ → List (List ℕ × List ℕ) → Type 0
 UsesAt space lock number pairs = HoldsAt (λ p. Uses space lock p pairs) (owners space) number
 
--- this is the least place of a task of the owner, or there is none
-abbrev pub IsEarlier : List DefinedTask → ℕ → Option ℕ → Type 0
-IsEarlier tasks number None = Unit {0}
-IsEarlier tasks number (Some place) = (t : DefinedTask) × (slice_get tasks place ≡ Some t) × (t.owner ≡ number)
+-- what some of the owners use, by their numbers
+pub record AreKnown (space : Space) (lock : Option Data) (known : List (Option (List (List ℕ × List ℕ)))) : Type 0 where
+  pub size : length known ≡ length (owners space)
+  pub each : (number : ℕ) → IfSome (get_or known number None) (UsesAt space lock number)
 
 -- the owner of this number finds each name
 abbrev pub FindsAt : Space → Option Data → ℕ → Type 0

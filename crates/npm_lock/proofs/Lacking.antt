@@ -33,10 +33,10 @@ name_turn from names found i n least now all at_name within is h =
 
 -- ---- the least is among them, and none is less
 
-abbrev is_most : Lack → Lack → Type 0
+abbrev pub is_most : Lack → Lack → Type 0
 is_most a b = is_gt (lack_cmp a b) ≡ false
 
-lack_total : IsTotalOrder lack_cmp
+pub lack_total : IsTotalOrder lack_cmp
 lack_total = then_total (on_total (λ (a : Lack). a.from) nat_list_cmp_total) (on_total (λ (a : Lack). a.name) nat_list_cmp_total)
 
 most_itself : (a : Lack) → is_most a a
@@ -82,10 +82,16 @@ least_is (a ∷ xs) before b e =
       kept = λ x h. upto lack_total b (lesser a before) x most (one.second x h);
     }
 
+some_none : (ys : List Lack) (y : Lack) → least_after ys (Some y) ≡ None → ⊥
+some_none [] y e = cc
+some_none (z ∷ ys) y e = some_none ys (lesser z (Some y)) e
+
+-- there was none before either
+pub none_before : (xs : List Lack) (before : Option Lack) → least_after xs before ≡ None → before ≡ None
+none_before xs None e = refl
+none_before xs (Some y) e = absurd (some_none xs y e)
+
 pub none_is : (xs : List Lack) (before : Option Lack) → least_after xs before ≡ None → (x : Lack) → Has xs x → ⊥
 none_is [] before e x h = h
-none_is (a ∷ xs) before e x (inl q) = some_none xs (lesser a before) e where
-  some_none : (ys : List Lack) (y : Lack) → least_after ys (Some y) ≡ None → ⊥
-  some_none [] y e = cc
-  some_none (z ∷ ys) y e = some_none ys (lesser z (Some y)) e
+none_is (a ∷ xs) before e x (inl q) = some_none xs (lesser a before) e
 none_is (a ∷ xs) before e x (inr h) = none_is xs (Some (lesser a before)) e x h

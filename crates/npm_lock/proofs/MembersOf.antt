@@ -1,5 +1,5 @@
 -- One turn of the loops over entries, and what the links of a set lead to.
-use Rattle.std.proofs.Common.{◌≡◌, inl, inr, ⊎_elim, ◌<◌, ◌+◌, ℕ, Bool, true, false, cond, ◌&&◌, List, [], ◌∷◌, ◌++◌, length, get_or, drop, map, filter, Option, Some, None, is_none, nat_eq, subst, refl, sym, ap, ◌∙◌, append_assoc}
+use Rattle.std.proofs.Common.{◌≡◌, inl, inr, ⊎_elim, ◌<◌, ◌+◌, ℕ, Bool, true, false, cond, ◌&&◌, not, List, [], ◌∷◌, ◌++◌, length, get_or, drop, map, filter, Option, Some, None, is_none, nat_eq, subst, refl, sym, ap, ◌∙◌, append_assoc}
 use Rattle.std.specs.Option.{option_to_list}
 use Rattle.std.specs.List.{Contains, dedup}
 use Rattle.std.specs.List.Sorted.{IsPermutation}
@@ -16,7 +16,7 @@ use Rattle.npm_lock.specs.declared.start.Lack.{Lack}
 use Rattle.npm_lock.specs.Sets.{Has}
 use Rattle.npm_lock.specs.Lookup.{found_number}
 use Rattle.npm_lock.specs.Finds.{found_by}
-use Rattle.npm_lock.specs.Lacks.{least_after, with_lack, is_lacking, lacks_by, lacks_of, name_lacks, member_lacks}
+use Rattle.npm_lock.specs.Lacks.{least_after, with_lack, is_lacking, lacks_by, lacks_of, name_lacks, beyond, member_lacks}
 use Rattle.npm_lock.specs.Reach.{is_set, set_of, links_of}
 use Rattle.npm_lock.specs.Externals.{IsLinked}
 use Rattle.npm_lock.proofs.Lacking.{after-append}
@@ -50,12 +50,23 @@ module _ (es : List Entry) (up : Ascend es) (bits : List Bool) (i : ℕ) (e : En
   link_turn done now all is h =
       rw is (append_assoc done _ _ ∙ ap (λ b. done ++ (cond b (option_to_list e.link) [] ++ links_of set (drop (i + 1) es))) (sym flag) ∙ ap (λ xs. done ++ links_of set xs) (sym next) ∙ h)
 
-  pub lack_turn : (found : List (Option ℕ)) (least now all : Option Lack) → found ≡ found_by es e → now ≡ least_after (lacks_of (is_set bits i) e found) least
-      → least_after (member_lacks es set (drop i es)) least ≡ all → least_after (member_lacks es set (drop (i + 1) es)) now ≡ all
+-- the same where only what is beyond a base counts
+module _ (es : List Entry) (up : Ascend es) (base bits : List Bool) (i : ℕ) (e : Entry) (at : (i < length es) × (e ≡ get_or es i e)) where
+  abbrev further : List ℕ → Bool
+  further = beyond (set_of es base) (set_of es bits)
+
+  further_flag : further e.location ≡ (is_set bits i && not (is_set base i))
+  further_flag = rw (flag_at es bits i e up at.0 at.1, flag_at es base i e up at.0 at.1) refl
+
+  further_next : drop i es ≡ e ∷ drop (i + 1) es
+  further_next = (turn es i e at).1
+
+  pub lack_turn : (found : List (Option ℕ)) (least now all : Option Lack) → found ≡ found_by es e → now ≡ least_after (lacks_of (is_set bits i && not (is_set base i)) e found) least
+      → least_after (member_lacks es further (drop i es)) least ≡ all → least_after (member_lacks es further (drop (i + 1) es)) now ≡ all
   lack_turn found least now all f is h =
-      ap (least_after (member_lacks es set (drop (i + 1) es))) (is ∙ ap (λ o. least_after (lacks_of (is_set bits i) e o) least) f ∙ ap (λ b. least_after (lacks_of b e (found_by es e)) least) (sym flag) ∙ ap (λ xs. least_after xs least) (by_entry (set e.location) e.link refl))
-      ∙ sym (after-append (cond (set e.location && is_none e.link) (name_lacks es e.location e.names) []) (member_lacks es set (drop (i + 1) es)) least)
-      ∙ ap (λ xs. least_after (member_lacks es set xs) least) (sym next) ∙ h
+      ap (least_after (member_lacks es further (drop (i + 1) es))) (is ∙ ap (λ o. least_after (lacks_of (is_set bits i && not (is_set base i)) e o) least) f ∙ ap (λ b. least_after (lacks_of b e (found_by es e)) least) (sym further_flag) ∙ ap (λ xs. least_after xs least) (by_entry (further e.location) e.link refl))
+      ∙ sym (after-append (cond (further e.location && is_none e.link) (name_lacks es e.location e.names) []) (member_lacks es further (drop (i + 1) es)) least)
+      ∙ ap (λ xs. least_after (member_lacks es further xs) least) (sym further_next) ∙ h
     where
       by_name : (names : List Name) → lacks_by e.location names (map (λ (n : Name). found_number es e.location n.text) names) ≡ name_lacks es e.location names
       by_name [] = refl

@@ -1,17 +1,19 @@
 -- What is missing is what the loops over starts and members gather.
-use Rattle.std.proofs.Common.{◌≡◌, ◌⊎◌, inl, inr, ⊎_elim, ℕ, Bool, true, false, cond, ◌&&◌, List, [], ◌∷◌, ◌++◌, Option, Some, None, is_none, refl, sym, ap, ◌∙◌, subst}
-use Rattle.std.proofs.lemmas.Bool.{false≢true}
+use Rattle.std.proofs.Common.{◌≡◌, ◌⊎◌, inl, inr, ⊎_elim, ℕ, Bool, true, false, cond, ◌&&◌, not, List, [], ◌∷◌, ◌++◌, Option, Some, None, is_none, refl, sym, ap, ◌∙◌, subst}
+use Rattle.std.proofs.lemmas.Bool.{and_parts, cases_Bool, false≢true}
+use Rattle.std.proofs.lemmas.Cmp.{upto}
 use Rattle.lock_entries.specs.declared.entry.Name.{Name}
 use Rattle.lock_entries.specs.declared.entry.Entry.{Entry}
 use Rattle.npm_lock.specs.declared.start.Start.{Start}
 use Rattle.npm_lock.specs.declared.start.Lack.{Lack}
-use Rattle.npm_lock.specs.Sets.{Has}
+use Rattle.npm_lock.specs.Sets.{Has, Within}
 use Rattle.npm_lock.specs.Lookup.{found_number}
 use Rattle.npm_lock.specs.Finds.{root_of}
-use Rattle.npm_lock.specs.Lacks.{least_after, with_lack, is_lacking, start_lacks, name_lacks, member_lacks}
-use Rattle.npm_lock.specs.Externals.{lookup_of, LooksUp, IsMissing, lack_of, IsLeastMissing}
-use Rattle.npm_lock.proofs.Lacking.{after-append, least_is, none_is}
-use Rattle.npm_lock.proofs.Locating.{found_none, number_none}
+use Rattle.npm_lock.specs.Lacks.{least_after, with_lack, is_lacking, start_lacks, name_lacks, beyond, member_lacks}
+use Rattle.npm_lock.specs.Reach.{set_of}
+use Rattle.npm_lock.specs.Externals.{lookup_of, LooksUp, IsExternals, IsMissing, lack_of, IsLeastLack, Reach, IsReachAmong}
+use Rattle.npm_lock.proofs.Lacking.{after-append, is_most, lack_total, IsLeastOf, least_is, none_is, none_before}
+use Rattle.npm_lock.proofs.Locating.{found_none, number_none, closed_fewer}
 use Rattle.npm_lock.proofs.Reaching.{has_left, has_right, has_append}
 
 lacking_is : (soft : Bool) (o : Option ℕ) → is_lacking soft o ≡ true → (soft ≡ false) × (o ≡ None)
@@ -102,11 +104,75 @@ module _ (es : List Entry) where
             let n = lacking_name r.0 r.0.names a r.4 in
             (lookup_of r.0 n.0, record { looked_up = inr (record { entry = r.0; among = r.1; is_member = r.2; no_link = r.3; name = n.0; named = n.1; same = refl }); hard = n.2; nothing = number_none es r.0.location n.0.text n.3 }, n.4)
 
-      pub none_missing : least_after (member_lacks es set es) (least_after (start_lacks es starts) None) ≡ None → (s : Start) → ¬ IsMissing es starts set s
-      none_missing e s m = none_is all None (after-append (start_lacks es starts) (member_lacks es set es) None ∙ e) (lack_of s) (missing_lacks s m)
+-- what is missing is missing for more starts and members too
+missing_more : (es : List Entry) (few many : List Start) (base set : List ℕ → Bool) → ((s : Start) → Has few s → Has many s) → Within base set → (s : Start) → IsMissing es few base s → IsMissing es many set s
+missing_more es few many base set more within s m = record { looked_up = looks m.looked_up; hard = m.hard; nothing = m.nothing } where
+  looks : LooksUp es few base s → LooksUp es many set s
+  looks (inl h) = inl (more s h)
+  looks (inr i) = inr (record { entry = i.entry; among = i.among; is_member = within i.entry.location i.is_member; no_link = i.no_link; name = i.name; named = i.named; same = i.same })
 
-      pub least_missing : (from name : List ℕ) → least_after (member_lacks es set es) (least_after (start_lacks es starts) None) ≡ Some (record { from = from; name = name }) → IsLeastMissing es starts set from name
-      least_missing from name e =
-          let l = least_is all None (record { from = from; name = name }) (after-append (start_lacks es starts) (member_lacks es set es) None ∙ e) in
-          let s = ⊎_elim (λ h. lacks_missing _ h) (λ z. absurd (cc)) l.which in
-          record { start = s.0; missing = s.1; same = s.2; least = λ t m. rw s.2 (l.each (lack_of t) (missing_lacks t m)) }
+-- the base, and what starts reach beyond it
+module _ (es : List Entry) (starts : List Start) (r : Reach) (known : IsReachAmong es r) (set : List ℕ → Bool) (externals : IsExternals es (starts ++ r.starts) set) where
+  abbrev base : List ℕ → Bool
+  base = set_of es r.set
+
+  abbrev every : List Start
+  every = starts ++ r.starts
+
+  abbrev further : List Lack
+  further = start_lacks es starts ++ member_lacks es (beyond base set) es
+
+  base_within : Within base set
+  base_within = known.externals.1 set (closed_fewer es starts r.starts set externals.0)
+
+  beyond_within : Within (beyond base set) set
+  beyond_within l t = (and_parts (set l) (not (base l)) t).0
+
+  base_missing : (s : Start) → IsMissing es r.starts base s → IsMissing es every set s
+  base_missing = missing_more es r.starts every base set (λ s h. has_right starts r.starts s h) base_within
+
+  further_missing : (s : Start) → IsMissing es starts (beyond base set) s → IsMissing es every set s
+  further_missing = missing_more es starts every (beyond base set) set (λ s h. has_left starts r.starts s h) beyond_within
+
+  -- each is one of the base or one beyond it
+  missing_split : (s : Start) → IsMissing es every set s → IsMissing es r.starts base s ⊎ IsMissing es starts (beyond base set) s
+  missing_split s m = by m.looked_up where
+    by : LooksUp es every set s → IsMissing es r.starts base s ⊎ IsMissing es starts (beyond base set) s
+    by (inl among) = ⊎_elim (λ h. inr (record { looked_up = inl h; hard = m.hard; nothing = m.nothing })) (λ h. inl (record { looked_up = inl h; hard = m.hard; nothing = m.nothing })) (has_append starts r.starts s among)
+    by (inr i) = elim (cases_Bool (base i.entry.location)) [
+      | inl t ↦ inl (record { looked_up = inr (record { entry = i.entry; among = i.among; is_member = t; no_link = i.no_link; name = i.name; named = i.named; same = i.same }); hard = m.hard; nothing = m.nothing })
+      | inr f ↦ inr (record { looked_up = inr (record { entry = i.entry; among = i.among; is_member = rw (i.is_member, f) refl; no_link = i.no_link; name = i.name; named = i.named; same = i.same }); hard = m.hard; nothing = m.nothing })
+    ]
+
+  none_least : least_after further r.least ≡ None → IsLeastLack es every set None
+  none_least e s m = ⊎_elim before later (missing_split s m) where
+    before : IsMissing es r.starts base s → ⊥
+    before b = subst (IsLeastLack es r.starts base) (none_before further r.least e) known.lacking s b
+
+    later : IsMissing es starts (beyond base set) s → ⊥
+    later n = none_is further r.least e (lack_of s) (missing_lacks es (beyond base set) starts s n)
+
+  some_least : (b : Lack) → least_after further r.least ≡ Some b → IsLeastLack es every set (Some b)
+  some_least b e = record { start = one.0; missing = one.1; same = one.2; least = λ s m. rw one.2 (⊎_elim (before s) (later s) (missing_split s m)) } where
+    of : IsLeastOf further r.least b
+    of = least_is further r.least b e
+
+    in_base : r.least ≡ Some b → IsLeastLack es r.starts base (Some b)
+    in_base q = subst (IsLeastLack es r.starts base) q known.lacking
+
+    one : (s : Start) × IsMissing es every set s × (lack_of s ≡ b)
+    one = ⊎_elim (λ h. let s = lacks_missing es (beyond base set) starts b h in (s.0, further_missing s.0 s.1, s.2)) (λ q. let l = in_base q in (l.start, base_missing l.start l.missing, l.same)) of.which
+
+    later : (s : Start) → IsMissing es starts (beyond base set) s → is_most b (lack_of s)
+    later s m = of.each (lack_of s) (missing_lacks es (beyond base set) starts s m)
+
+    before : (s : Start) → IsMissing es r.starts base s → is_most b (lack_of s)
+    before s m = by r.least refl known.lacking where
+      by : (o : Option Lack) → r.least ≡ o → IsLeastLack es r.starts base o → is_most b (lack_of s)
+      by None q none = absurd (none s m)
+      by (Some x) q l = upto lack_total b x (lack_of s) (of.kept x q) (subst (λ a. is_most a (lack_of s)) l.same (l.least s m))
+
+  -- the least of the base's and of those beyond it is the least of all
+  pub least_lack : (now : Option Lack) → now ≡ least_after (member_lacks es (beyond base set) es) (least_after (start_lacks es starts) r.least) → IsLeastLack es every set now
+  least_lack None e = none_least (after-append (start_lacks es starts) (member_lacks es (beyond base set) es) r.least ∙ sym e)
+  least_lack (Some b) e = some_least b (after-append (start_lacks es starts) (member_lacks es (beyond base set) es) r.least ∙ sym e)

@@ -3,8 +3,8 @@ use Rattle.std.proofs.Common.{◌≡◌, ◌≢◌, ◌⊎◌, inl, inr, ◌<◌
 use Rattle.std.proofs.lemmas.Bool.{cases_Bool, cases_lt, false≢true, cases_eq}
 use Rattle.std.proofs.lemmas.List.{get_or_past, get_or-replicate, length-replicate}
 use Rattle.std.proofs.lemmas.List.Sums.{sum_by-set}
-use Rattle.npm_lock.specs.Sets.{Has}
-use Rattle.npm_lock.specs.Reach.{is_set, finds_at, IsClosedUnder, IsReached, AreBelow, AllBelow, mark, mark_all}
+use Rattle.npm_lock.specs.Sets.{Has, Within}
+use Rattle.npm_lock.specs.Reach.{is_set, finds_at, HoldsItsFinds, IsClosedUnder, IsReached, AreBelow, AllBelow, mark, mark_all}
 
 abbrev Work : Type 0
 Work = List Bool × List ℕ
@@ -24,7 +24,7 @@ has_append (y ∷ xs) ys x (inl e) = inl (inl e)
 has_append (y ∷ xs) ys x (inr h) = ⊎_elim (λ l. inl (inr l)) inr (has_append xs ys x h)
 
 -- a number of the set is one of its flags
-set_below : (flags : List Bool) (n : ℕ) → is_set flags n ≡ true → n < length flags
+pub set_below : (flags : List Bool) (n : ℕ) → is_set flags n ≡ true → n < length flags
 set_below flags n e = by (cases_lt n (length flags)) where
   by : (n < length flags) ⊎ (length flags ≤ n) → n < length flags
   by (inl lt) = lt
@@ -119,43 +119,44 @@ all-sets size (Some m ∷ found) below w sized n (inr h) = all-sets size found b
 
 -- ---- the loop
 
-pub record Going (finds : List (List (Option ℕ))) (roots : List (Option ℕ)) (w : Work) : Type 0 where
+pub record Going (finds : List (List (Option ℕ))) (base : List Bool) (roots : List (Option ℕ)) (w : Work) : Type 0 where
   pub size : length w.0 ≡ length finds
+  pub begun : Within (is_set base) (is_set w.0)
   pub waiting : (n : ℕ) → Has w.1 n → is_set w.0 n ≡ true
   pub rooted : (n : ℕ) → Has roots (Some n) → is_set w.0 n ≡ true
   pub done : (n : ℕ) → is_set w.0 n ≡ true → Has w.1 n ⊎ ((m : ℕ) → Has (finds_at finds n) (Some m) → is_set w.0 m ≡ true)
-  pub within : (other : ℕ → Bool) → IsClosedUnder finds roots other → (n : ℕ) → is_set w.0 n ≡ true → other n ≡ true
+  pub within : (other : ℕ → Bool) → IsClosedUnder finds base roots other → (n : ℕ) → is_set w.0 n ≡ true → other n ≡ true
 
 pub finds_below : (size : ℕ) (finds : List (List (Option ℕ))) → AllBelow size finds → (n : ℕ) → AreBelow size (finds_at finds n)
 finds_below size [] all n = tt
 finds_below size (found ∷ finds) all zero = all.0
 finds_below size (found ∷ finds) all (suc n) = finds_below size finds all.1 n
 
-module _ (finds : List (List (Option ℕ))) (roots : List (Option ℕ)) where
-  none_set : (n k : ℕ) → is_set (replicate n false) k ≡ true → ⊥
-  none_set n k e = ⊎_elim (λ lt. false≢true (sym (get_or-replicate n k false false lt) ∙ e)) (λ ge. false≢true (sym (get_or_past (replicate n false) k false (omega (arith, ge, length-replicate n false))) ∙ e)) (cases_lt k n)
+-- the flags of nothing
+pub none_set : (n k : ℕ) → is_set (replicate n false) k ≡ true → ⊥
+none_set n k e = ⊎_elim (λ lt. false≢true (sym (get_or-replicate n k false false lt) ∙ e)) (λ ge. false≢true (sym (get_or_past (replicate n false) k false (omega (arith, ge, length-replicate n false))) ∙ e)) (cases_lt k n)
 
-  pub started : AreBelow (length finds) roots → (w : Work) → w ≡ mark_all roots (replicate (length finds) false, []) → Going finds roots w
-  started below w is = rw is (record {
+module _ (finds : List (List (Option ℕ))) (base : List Bool) (roots : List (Option ℕ)) where
+  pub started : AreBelow (length finds) roots → length base ≡ length finds → HoldsItsFinds finds (is_set base) → (w : Work) → w ≡ mark_all roots (base, []) → Going finds base roots w
+  started below sized holds w is = rw is (record {
     size = all-length size roots below w0 sized;
     waiting = all-set size roots below w0 sized (λ k h. absurd h);
     rooted = all-sets size roots below w0 sized;
-    done = λ n e. ⊎_elim (λ old. absurd (none_set size n old)) inl (all-waiting size roots below w0 sized n e);
-    within = λ other closed. all-within size roots below w0 sized other closed.rooted (λ k old. absurd (none_set size k old));
+    begun = all-kept size roots below w0 sized;
+    done = λ n e. ⊎_elim (λ old. inr (λ m f. all-kept size roots below w0 sized m (holds n m old f))) inl (all-waiting size roots below w0 sized n e);
+    within = λ other closed. all-within size roots below w0 sized other closed.rooted closed.begun;
   }) where
     size : ℕ
     size = length finds
 
     w0 : Work
-    w0 = (replicate size false, [])
+    w0 = (base, [])
 
-    sized : length w0.0 ≡ size
-    sized = length-replicate size false
-
-  pub stepped : AllBelow (length finds) finds → (w : Work) (rest : List ℕ) (n : ℕ) → w.1 ≡ rest ++ n ∷ [] → Going finds roots w → Going finds roots (mark_all (finds_at finds n) (w.0, rest))
+  pub stepped : AllBelow (length finds) finds → (w : Work) (rest : List ℕ) (n : ℕ) → w.1 ≡ rest ++ n ∷ [] → Going finds base roots w → Going finds base roots (mark_all (finds_at finds n) (w.0, rest))
   stepped all w rest n split going = record {
     size = all-length size found below v going.size;
     waiting = all-set size found below v going.size (λ k h. going.waiting k (rw split (has_left rest (n ∷ []) k h)));
+    begun = λ k h. all-kept size found below v going.size k (going.begun k h);
     rooted = λ k h. all-kept size found below v going.size k (going.rooted k h);
     done = λ k e. ⊎_elim (λ old. ⊎_elim (λ h. waited k (has_append rest (n ∷ []) k (rw split at h))) (λ all. inr (λ m f. all-kept size found below v going.size m (all m f))) (going.done k old)) inl (all-waiting size found below v going.size k e);
     within = λ other closed. all-within size found below v going.size other (λ m h. closed.members n m (going.within other closed n here) h) (λ k old. going.within other closed k old);
@@ -180,22 +181,22 @@ module _ (finds : List (List (Option ℕ))) (roots : List (Option ℕ)) where
     waited k (inr (inl e)) = inr (λ m f. all-sets size found below v going.size m (rw e f))
     waited k (inr (inr z)) = absurd z
 
-  pub ended : (w : Work) → w.1 ≡ [] → Going finds roots w → IsReached finds roots w.0
+  pub ended : (w : Work) → w.1 ≡ [] → Going finds base roots w → IsReached finds base roots w.0
   ended w over going = record {
     size = going.size;
-    least = (record { rooted = going.rooted; members = λ n m e f. ⊎_elim (λ h. absurd (rw over at h)) (λ all. all m f) (going.done n e) }, λ other closed k e. going.within other closed k e);
+    least = (record { begun = going.begun; rooted = going.rooted; members = λ n m e f. ⊎_elim (λ h. absurd (rw over at h)) (λ all. all m f) (going.done n e) }, λ other closed k e. going.within other closed k e);
   }
 
   -- one turn of the loop: what was waiting last is taken, and what it finds is marked
   pub turned : AllBelow (length finds) finds → (w next now : Work) (n : ℕ) (found : List (Option ℕ)) → next.0 ≡ w.0 → w.1 ≡ next.1 ++ n ∷ [] → found ≡ finds_at finds n → now ≡ mark_all found next
-      → Going finds roots w → Going finds roots now × (left now < left w)
+      → Going finds base roots w → Going finds base roots now × (left now < left w)
   turned all w next now n found set split is made going =
       let same : (w.0, next.1) ≡ next = ap (λ s. (s, next.1)) (sym set) in
       let made' : now ≡ mark_all (finds_at finds n) (w.0, next.1) = made ∙ ap (λ f. mark_all f next) is ∙ ap (mark_all (finds_at finds n)) (sym same) in
       let kept : left (mark_all (finds_at finds n) (w.0, next.1)) ≡ left (w.0, next.1) = all-left (length finds) (finds_at finds n) (finds_below (length finds) finds all n) (w.0, next.1) going.size in
       (rw made' (stepped all w next.1 n split going), rw made' (omega (arith, kept, ap length split, length-append next.1 (n ∷ []))))
 
-  pub taken_below : (w : Work) (n : ℕ) (rest : List ℕ) → w.1 ≡ rest ++ n ∷ [] → Going finds roots w → n < length finds
+  pub taken_below : (w : Work) (n : ℕ) (rest : List ℕ) → w.1 ≡ rest ++ n ∷ [] → Going finds base roots w → n < length finds
   taken_below w n rest split going = omega (arith, set_below w.0 n (going.waiting n (rw split (has_right rest (n ∷ []) n (inl refl)))), going.size)
 
 -- what is read there

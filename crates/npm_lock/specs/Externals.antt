@@ -1,5 +1,5 @@
 -- What names reach in a lockfile: the least set of locations that holds what the starts find and what the names of each member that is no link find.
-use Rattle.std.specs.Prelude.{◌≡◌, ◌⊎◌, ◌↔◌, ℕ, List, [], map, filter, Bool, true, false, Option, Some, None, unwrap_or, option_and_then, codes, Result, Ok, Err, ⊤}
+use Rattle.std.specs.Prelude.{◌≡◌, ◌⊎◌, ◌↔◌, ℕ, List, [], length, map, filter, Bool, true, false, Option, Some, None, unwrap_or, option_and_then, codes, Result, Ok, Err, ⊤}
 use Rattle.std.specs.Option.{option_map}
 use Rattle.std.specs.Ordering.{is_gt}
 use Rattle.std.specs.List.Sorted.{IsStrictlySortedBy}
@@ -16,6 +16,7 @@ use Rattle.npm_lock.specs.declared.error.ExtErr.{ExtErr}
 use Rattle.npm_lock.specs.declared.error.ExtErr.TheVariants.{Missing, OutOfMemory}
 use Rattle.npm_lock.specs.Lookup.{found}
 use Rattle.npm_lock.specs.Lacks.{lack_cmp}
+use Rattle.npm_lock.specs.Reach.{set_of}
 use Rattle.npm_lock.specs.Sets.{Has, IsLeast}
 
 -- a name of an entry, looked up from its location
@@ -59,6 +60,26 @@ pub record IsLeastMissing (entries : List Entry) (starts : List Start) (set : Li
   pub missing : IsMissing entries starts set start
   pub same : lack_of start ≡ record { from = from; name = name }
   pub least : (s : Start) → IsMissing entries starts set s → is_gt (lack_cmp (lack_of start) (lack_of s)) ≡ false
+
+-- nothing is missing, or this is the least that is
+abbrev pub IsLeastLack : List Entry → List Start → (List ℕ → Bool) → Option Lack → Type 0
+IsLeastLack entries starts set None = (s : Start) → ¬ IsMissing entries starts set s
+IsLeastLack entries starts set (Some lack) = IsLeastMissing entries starts set lack.from lack.name
+
+-- some starts, the flags of what they reach, and the least that is missing
+pub record Reach : Type 0 where
+  pub starts : List Start
+  pub set : List Bool
+  pub least : Option Lack
+
+-- the flags are those of the entries that the starts reach
+pub record IsReachAmong (entries : List Entry) (r : Reach) : Type 0 where
+  pub size : length r.set ≡ length entries
+  pub externals : IsExternals entries r.starts (set_of entries r.set)
+  pub lacking : IsLeastLack entries r.starts (set_of entries r.set) r.least
+
+abbrev pub IsReachIn : Data → Reach → Type 0
+IsReachIn d r = IsReachAmong (entries_in d) r
 
 -- the entry at a location of `packages`, as `serde_json` writes it without blanks
 unfoldable pub text_in : Option Data → List ℕ → List ℕ

@@ -49,6 +49,10 @@ name_lacks entries from (n ∷ names) = with_lack (is_lacking n.soft (found_numb
 abbrev pub lacks_of : Bool → Entry → List (Option ℕ) → List Lack
 lacks_of is_member e found = if is_member && is_none e.link then lacks_by e.location e.names found else []
 
+-- what is in the one set and not in the base
+abbrev pub beyond : (List ℕ → Bool) → (List ℕ → Bool) → List ℕ → Bool
+beyond base set location = set location && not (base location)
+
 -- the same of those of some entries that are members and no links
 abbrev pub member_lacks : List Entry → (List ℕ → Bool) → List Entry → List Lack
 member_lacks entries set [] = []

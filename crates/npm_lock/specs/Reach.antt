@@ -3,7 +3,7 @@ use Rattle.std.specs.Prelude.{◌≡◌, ◌<◌, ℕ, List, [], ◌∷◌, ◌+
 use Rattle.std.specs.Option.{option_to_list}
 use Rattle.lock_entries.specs.declared.entry.Entry.{Entry}
 use Rattle.npm_lock.specs.Lookup.{number_of}
-use Rattle.npm_lock.specs.Sets.{Has, IsLeast}
+use Rattle.npm_lock.specs.Sets.{Has, Within, IsLeast}
 
 -- the number is in the set
 abbrev pub is_set : List Bool → ℕ → Bool
@@ -13,15 +13,20 @@ is_set set n = slice_index_or set n false
 abbrev pub finds_at : List (List (Option ℕ)) → ℕ → List (Option ℕ)
 finds_at finds n = slice_index_or finds n []
 
--- what the roots find is in the set, and so is what each of its numbers finds
-pub record IsClosedUnder (finds : List (List (Option ℕ))) (roots : List (Option ℕ)) (set : ℕ → Bool) : Type 0 where
+-- what each number of the set finds is in the set
+abbrev pub HoldsItsFinds : List (List (Option ℕ)) → (ℕ → Bool) → Type 0
+HoldsItsFinds finds set = (n m : ℕ) → set n ≡ true → Has (finds_at finds n) (Some m) → set m ≡ true
+
+-- the base is in the set, and so is what the roots find and what each number of the set finds
+pub record IsClosedUnder (finds : List (List (Option ℕ))) (base : List Bool) (roots : List (Option ℕ)) (set : ℕ → Bool) : Type 0 where
+  pub begun : Within (is_set base) set
   pub rooted : (n : ℕ) → Has roots (Some n) → set n ≡ true
-  pub members : (n m : ℕ) → set n ≡ true → Has (finds_at finds n) (Some m) → set m ≡ true
+  pub members : HoldsItsFinds finds set
 
 -- the flags of the least such set
-pub record IsReached (finds : List (List (Option ℕ))) (roots : List (Option ℕ)) (set : List Bool) : Type 0 where
+pub record IsReached (finds : List (List (Option ℕ))) (base : List Bool) (roots : List (Option ℕ)) (set : List Bool) : Type 0 where
   pub size : length set ≡ length finds
-  pub least : IsLeast (IsClosedUnder finds roots) (is_set set)
+  pub least : IsLeast (IsClosedUnder finds base roots) (is_set set)
 
 abbrev pub AreBelow : ℕ → List (Option ℕ) → Type 0
 AreBelow size [] = ⊤

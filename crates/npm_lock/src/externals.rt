@@ -5,34 +5,38 @@ ghost use Rattle.std.specs.List.Sorted.{IsStrictlySortedBy};
 ghost use Rattle.rel_path.specs.Paths.{name_cmp};
 ghost use Rattle.lock_entries.specs.Lockfile.{Ascend};
 ghost use Rattle.lock_entries.specs.declared.entry.Entry.{Entry};
-ghost use Rattle.npm_lock.specs.Externals.{IsExternals, IsLinked};
+ghost use Rattle.npm_lock.specs.Externals.{IsExternals, IsLinked, IsReachAmong, IsLeastLack};
 ghost use Rattle.npm_lock.specs.Finds.{found_by};
-ghost use Rattle.npm_lock.specs.Lacks.{least_after, start_lacks, lacks_of, member_lacks};
+ghost use Rattle.npm_lock.specs.Lacks.{least_after, lacks_of, beyond, member_lacks};
 ghost use Rattle.npm_lock.specs.Reach.{set_of, links_of};
 ghost use Rattle.npm_lock.specs.Sets.{Has};
 
 use crate::finds::Finds;
 use crate::reach::reach;
+use crate::reached::Reached;
 use crate::start::{Lack, Start, entry_lack, roots, start_lack};
 use lock_entries::Entry;
 use rel_path::{Text, Texts};
 use std::alloc::{AllocError, Global};
 
-/// The flags of the locations that the starts reach.
-pub(crate) fn reached(
+/// The flags of the locations that the starts and those of the base reach.
+pub(crate) fn reached_beyond(
     alloc: Global,
     entries: &[Entry],
     finds: &[Finds],
+    base: &Reached,
     starts: &[Start],
 ) -> Result<Vec<bool>, AllocError>
     requires ascend { Ascend entries.now }
     requires few { length entries.now < 2 ^ 32 }
     requires found { finds.now ≡ map (found_by entries.now) entries.now }
+    requires base { IsReachAmong entries.now base.now }
     ensures size { IfOk result (λ set. length set.items ≡ length entries.now) }
-    ensures least { IfOk result (λ set. IsExternals entries.now starts.now (set_of entries.now set.items)) }
+    ensures least { let all = starts.now ++ base.now.starts in
+        IfOk result (λ set. IsExternals entries.now all (set_of entries.now set.items)) }
 {
     let roots = roots(alloc, entries, starts)?;
-    reach(alloc, finds, roots.as_slice())
+    reach(alloc, finds, base.set_copy()?, roots.as_slice())
 }
 
 fn lack_at(
@@ -51,40 +55,51 @@ fn lack_at(
     }
 }
 
+/// The least after the names of those members that are not in the base were looked up too.
 fn member_lack(
     entries: &[Entry],
     finds: &[Finds],
+    base: &[bool],
     set: &[bool],
     least: Option<Lack>,
 ) -> Result<Option<Lack>, AllocError>
     requires ascend { Ascend entries.now }
     requires found { finds.now ≡ map (found_by entries.now) entries.now }
+    requires base { length base.now ≡ length entries.now }
     requires size { length set.now ≡ length entries.now }
-    ensures least { IfOk result (λ now. now ≡ least_after (member_lacks entries.now (set_of entries.now set.now) entries.now) least) }
+    ensures least { let further = beyond (set_of entries.now base.now) (set_of entries.now set.now)
+        in let lacks = member_lacks entries.now further entries.now in
+        IfOk result (λ now. now ≡ least_after lacks least) }
 {
     let mut least = least;
     for (i, entry) in entries.iter().enumerate() {
         let found = &finds[i];
-        least = lack_at(entry, found, set[i], least)?;
+        least = lack_at(entry, found, set[i] && !base[i], least)?;
     }
     Ok(least)
 }
 
-/// The least of what has to be found and is not, by location and then by name.
-pub(crate) fn least_lack(
+/// The least of what has to be found for the starts and those of the base and is not, by location and then by name.
+/// The set is what they reach.
+pub(crate) fn lack_beyond(
     entries: &[Entry],
     finds: &[Finds],
+    base: &Reached,
     set: &[bool],
     starts: &[Start],
 ) -> Result<Option<Lack>, AllocError>
     requires ascend { Ascend entries.now }
     requires few { length entries.now < 2 ^ 32 }
     requires found { finds.now ≡ map (found_by entries.now) entries.now }
+    requires base { IsReachAmong entries.now base.now }
     requires size { length set.now ≡ length entries.now }
-    ensures least { IfOk result (λ least. least ≡ least_after (member_lacks entries.now (set_of entries.now set.now) entries.now) (least_after (start_lacks entries.now starts.now) None)) }
+    requires set { let all = starts.now ++ base.now.starts in
+        IsExternals entries.now all (set_of entries.now set.now) }
+    ensures least { let all = starts.now ++ base.now.starts in
+        IfOk result (IsLeastLack entries.now all (set_of entries.now set.now)) }
 {
-    let least = start_lack(entries, starts)?;
-    member_lack(entries, finds, set, least)
+    let least = start_lack(entries, starts, base.least_copy()?)?;
+    member_lack(entries, finds, base.set(), set, least)
 }
 
 fn with_link(mut folders: Vec<Text>, link: &Option<Text>) -> Result<Vec<Text>, AllocError>

@@ -15,8 +15,9 @@
 //!
 //! From `packages/web` the name `left` finds the last location, from `packages/ui` it finds
 //! `node_modules/left`, and `ui` leads to the folder `packages/ui`. [`Lock`] answers what some starts
-//! reach over any number of dependencies, cuts a lockfile to what stays of it, and writes it. `LockErr`
-//! says why a file is no lockfile, `ExtErr` which name finds nothing.
+//! reach over any number of dependencies, cuts a lockfile to what stays of it, and writes it. What many
+//! questions have in common is reached once: [`Lock::reached`] keeps it, and [`Lock::externals_beyond`]
+//! goes on from there. `LockErr` says why a file is no lockfile, `ExtErr` which name finds nothing.
 #![tactic(auto)]
 
 mod cut;
@@ -26,10 +27,12 @@ mod finds;
 mod lock;
 mod lookup;
 mod reach;
+mod reached;
 mod start;
 mod texts;
 
 pub use error::ExtErr;
 pub use lock::Lock;
 pub use lock_entries::LockErr;
+pub use reached::Reached;
 pub use start::Start;

@@ -1,5 +1,5 @@
 // A lockfile that was read.
-ghost use Rattle.std.specs.Prelude.{◌≡◌, ◌<◌, ◌^◌, length, ◌≤◌, map, Ok, Some, IfSome, IfOk, codes, IsOkUnless};
+ghost use Rattle.std.specs.Prelude.{◌≡◌, ◌<◌, ◌^◌, ◌++◌, length, ◌≤◌, map, Ok, Some, IfSome, IfOk, codes, IsOkUnless};
 ghost use Rattle.std.specs.Option.{option_map};
 ghost use Rattle.std.specs.List.{slice_get};
 ghost use Rattle.serde_json.specs.View.{view};
@@ -10,7 +10,7 @@ ghost use Rattle.serde_json.specs.Read.{max_depth};
 ghost use Rattle.lock_entries.specs.Errors.{Accepts};
 ghost use Rattle.lock_entries.specs.declared.error.LockErr.TheVariants.{OutOfMemory};
 ghost use Rattle.npm_lock.specs.Cut.{cut};
-ghost use Rattle.npm_lock.specs.Externals.{Externals, Links, texts_in, members_in};
+ghost use Rattle.npm_lock.specs.Externals.{Externals, Links, IsReachIn, texts_in, members_in};
 ghost use Rattle.npm_lock.specs.Reach.{set_of};
 ghost use Rattle.npm_lock.specs.Reading.{lock_of, Reads, IsPrinted};
 ghost use Rattle.npm_lock.specs.Finds.{found_by};
@@ -18,9 +18,10 @@ ghost use Rattle.npm_lock.specs.Lookup.{found_number};
 
 use crate::ExtErr;
 use crate::cut::cut_value;
-use crate::externals::{least_lack, links, reached};
+use crate::externals::{lack_beyond, links, reached_beyond};
 use crate::finds::{Finds, all_found};
 use crate::lookup::found_number;
+use crate::reached::Reached;
 use crate::start::{Lack, Start};
 use crate::texts::entry_texts;
 use json_view::View;
@@ -159,9 +160,41 @@ impl Lock {
     pub fn externals(&self, alloc: Global, starts: &[Start]) -> Result<Pairs, ExtErr>
         ensures { Externals (view self.now) starts.now result }
     {
+        let nothing = Reached::nothing(alloc, self.entries())?;
+        self.externals_beyond(alloc, &nothing, starts)
+    }
+
+    /// What the starts reach, to go on from. Its only error is want of memory.
+    pub fn reached(&self, alloc: Global, starts: Vec<Start>) -> Result<Reached, AllocError>
+        ensures starts { IfOk result (λ r. r.starts ≡ starts.items) }
+        ensures reached { IfOk result (IsReachIn (view self.now)) }
+    {
         let entries = self.entries();
-        let set = reached(alloc, entries, self.finds(), starts)?;
-        match least_lack(entries, self.finds(), set.as_slice(), starts)? {
+        let nothing = Reached::nothing(alloc, entries)?;
+        let set = reached_beyond(alloc, entries, self.finds(), &nothing, starts.as_slice())?;
+        let least = lack_beyond(
+            entries,
+            self.finds(),
+            &nothing,
+            set.as_slice(),
+            starts.as_slice(),
+        )?;
+        Ok(Reached { starts, set, least })
+    }
+
+    /// As `externals` of these starts and those of the base. What the base reaches is not gone through again.
+    pub fn externals_beyond(
+        &self,
+        alloc: Global,
+        base: &Reached,
+        starts: &[Start],
+    ) -> Result<Pairs, ExtErr>
+        requires { IsReachIn (view self.now) base.now }
+        ensures { Externals (view self.now) (starts.now ++ base.now.starts) result }
+    {
+        let entries = self.entries();
+        let set = reached_beyond(alloc, entries, self.finds(), base, starts)?;
+        match lack_beyond(entries, self.finds(), base, set.as_slice(), starts)? {
             Some(Lack { from, name }) => Err(ExtErr::Missing { from, name }),
             None => Ok(self.members(alloc, set.as_slice())?),
         }
@@ -173,7 +206,8 @@ impl Lock {
         ensures { Links (view self.now) starts.now result }
     {
         let entries = self.entries();
-        let set = reached(alloc, entries, self.finds(), starts)?;
+        let nothing = Reached::nothing(alloc, entries)?;
+        let set = reached_beyond(alloc, entries, self.finds(), &nothing, starts)?;
         Ok(links(alloc, entries, set.as_slice())?)
     }
 

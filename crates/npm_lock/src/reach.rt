@@ -1,6 +1,6 @@
 // The numbers that are reached from some numbers by what they find: a work list.
-ghost use Rattle.std.specs.Prelude.{◌≡◌, ◌<◌, ◌∷◌, ◌++◌, [], length, replicate, false, true, Some, None, IfOk, OnOk, slice_get, MatchOption};
-ghost use Rattle.npm_lock.specs.Reach.{mark, mark_all, AreBelow, AllBelow, IsReached, is_set};
+ghost use Rattle.std.specs.Prelude.{◌≡◌, ◌<◌, ◌∷◌, ◌++◌, [], length, true, Some, None, IfOk, OnOk, slice_get, MatchOption};
+ghost use Rattle.npm_lock.specs.Reach.{mark, mark_all, AreBelow, AllBelow, HoldsItsFinds, IsReached, is_set};
 
 use crate::finds::Finds;
 use std::alloc::{AllocError, Global};
@@ -23,12 +23,11 @@ impl Model for Work {
 }
 
 impl Work {
-    fn new(alloc: Global, size: usize) -> Result<Work, AllocError>
-        ensures { IfOk result (λ work. work ≡ (replicate size false, [])) }
+    fn new(alloc: Global, set: Vec<bool>) -> Work
+        ensures { result ≡ (set.items, []) }
     {
-        let set = vec![in alloc; false; size]?;
         let todo = Vec::new(alloc);
-        Ok(Work { set, todo })
+        Work { set, todo }
     }
 
     fn mark(&mut self, number: u32) -> Result<(), AllocError>
@@ -70,17 +69,21 @@ impl Work {
     }
 }
 
-/// The flags of the numbers that are reached from the roots.
+/// The flags of the numbers of a set and of those that are reached from the roots. What the numbers of the set find is
+/// in it, so they are not gone through again.
 pub(crate) fn reach(
     alloc: Global,
     finds: &[Finds],
+    set: Vec<bool>,
     roots: &[Option<u32>],
 ) -> Result<Vec<bool>, AllocError>
+    requires size { length set.items ≡ length finds.now }
+    requires closed { HoldsItsFinds finds.now (is_set set.items) }
     requires roots { AreBelow (length finds.now) roots.now }
     requires finds { AllBelow (length finds.now) finds.now }
-    ensures { IfOk result (λ set. IsReached finds.now roots.now set.items) }
+    ensures { IfOk result (λ now. IsReached finds.now set.items roots.now now.items) }
 {
-    let mut work = Work::new(alloc, finds.len())?;
+    let mut work = Work::new(alloc, set);
     work.mark_all(roots)?;
     while let Some(number) = work.next() {
         work.mark_all(finds[number as usize].as_slice())?;

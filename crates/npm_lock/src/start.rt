@@ -21,7 +21,7 @@ pub struct Start {
 }
 
 /// A name that has to be found from a location, and is not.
-#[derive(Drop)]
+#[derive(Clone, Drop)]
 pub(crate) struct Lack {
     pub from: Text,
     pub name: Text,
@@ -102,13 +102,18 @@ fn lack_after(
     Ok(Some(lesser(lack, least)))
 }
 
-/// The least of the starts that have to find something and don't.
-pub(crate) fn start_lack(entries: &[Entry], starts: &[Start]) -> Result<Option<Lack>, AllocError>
+/// The least after the starts were looked up too.
+pub(crate) fn start_lack(
+    entries: &[Entry],
+    starts: &[Start],
+    least: Option<Lack>,
+) -> Result<Option<Lack>, AllocError>
     requires ascend { Ascend entries.now }
     requires few { length entries.now < 2 ^ 32 }
-    ensures least { IfOk result (λ least. least ≡ least_after (start_lacks entries.now starts.now) None) }
+    ensures least { let lacks = start_lacks entries.now starts.now in
+        IfOk result (λ now. now ≡ least_after lacks least) }
 {
-    let mut least = None;
+    let mut least = least;
     for start in starts {
         let found = root_of(entries, start);
         least = lack_after(&start.from, &start.name, start.soft, found, least)?;
