@@ -6,8 +6,9 @@
 // For each count of packages (60, 125, 200 and 1,000 where none is said) and each shape makes a repository and prints a row:
 // a first run of short commands, a run in which nothing changed, one after an edit, and the greatest memory. In `flat` no
 // package depends on another, in `tree` each on the one at half its place, in `chain` each on the one before it. Then it
-// runs after a hundred edits in a row. Each time is the least of three, but npm's and those of an edit, which are taken
-// once. Times are seconds by the clock.
+// runs after a hundred edits in a row, and last it lists large repositories without running anything: files in many
+// packages and in one, and tasks that each depend on five others. Each time is the least of three, but npm's and those of
+// an edit, which are taken once. Times are seconds by the clock.
 'use strict'
 
 const { spawnSync } = require('child_process')
@@ -28,6 +29,10 @@ const AT_ONCE = 10
 const FILES = 10
 const FILE_BYTES = 2000
 const EDITS = 100
+// Packages and files in each, and tasks of one package, that are listed; and how far back each task's dependencies stand.
+const LISTED = [[100, 50], [1000, 50], [1, 50000]]
+const PLANNED = [20, 100]
+const BACK = [1, 2, 3, 5, 8]
 // What a short command does: it sleeps ten milliseconds and prints a line.
 const SHORT = 'sleep 0.01; echo built'
 // npm starts itself for each package, and keys of a long chain hold one another: beyond these counts neither is timed.
@@ -71,7 +76,7 @@ function ninjaRules(numbers, dependency) {
   return `rule run\n  command = cd packages/$package && { ${SHORT}; }\n  description = $package\n${rules.join('')}`
 }
 
-function repository(count, dependency) {
+function repository(count, dependency, files = FILES) {
   const root = fs.mkdtempSync(path.join(work, 'repository-'))
   const numbers = [...Array(count).keys()]
   write(path.join(root, 'package.json'), '{"name":"root","version":"1.0.0","workspaces":["packages/*"]}\n')
@@ -85,7 +90,7 @@ function repository(count, dependency) {
     const manifest = { name: name(number), version: '1.0.0', scripts: { build: SHORT } }
     if (below !== undefined) manifest.dependencies = { [name(below)]: '*' }
     write(path.join(folder, 'package.json'), JSON.stringify(manifest))
-    for (let file = 0; file < FILES; file++) write(path.join(folder, 'src', `${file}.txt`), content(`${number}-${file}`))
+    for (let file = 0; file < files; file++) write(path.join(folder, 'src', `${file}.txt`), content(`${number}-${file}`))
   }
   return root
 }
@@ -187,6 +192,33 @@ function edits(count) {
   console.log(`\n${EDITS} edits in a row of one package of ${count} (tree), medians of the first and the last ten runs: ${shown(begin)} and ${shown(end)} s, ${ratio(end, begin)} times`)
 }
 
+// Packages of files, and a task in each, of which nothing runs.
+function listed(packages, files) {
+  const root = repository(packages, SHAPES.flat, files)
+  const dry = least(TIMES, nothing, root, PROGRAM, ['run', 'build', '--dry'])
+  const walked = least(TIMES, nothing, root, 'find', ['packages', '-type', 'f'])
+  const hashed = least(TIMES, nothing, root, 'sh', ['-c', 'find packages -type f -print0 | sort -z | xargs -0 cat | sha256sum'])
+  fs.rmSync(root, { recursive: true, force: true })
+  console.log(`| ${[`${packages} packages of ${files} files`, shown(dry), shown(walked), shown(hashed), ratio(dry, hashed)].join(' | ')} |`)
+}
+
+// One package of tasks, of which each depends on five before it.
+function planned(tasks) {
+  const root = repository(1, SHAPES.flat)
+  const definitions = {}
+  const scripts = {}
+  for (let task = 0; task < tasks; task++) {
+    const dependsOn = BACK.filter((back) => back <= task).map((back) => `t${task - back}`)
+    definitions[`t${task}`] = { dependsOn, inputs: ['src/0.txt'] }
+    scripts[`t${task}`] = SHORT
+  }
+  write(path.join(root, 'turbo.json'), JSON.stringify({ tasks: definitions }))
+  write(path.join(root, 'packages', name(0), 'package.json'), JSON.stringify({ name: name(0), version: '1.0.0', scripts }))
+  const dry = least(TIMES, nothing, root, PROGRAM, ['run', `t${tasks - 1}`, '--dry'])
+  fs.rmSync(root, { recursive: true, force: true })
+  console.log(`| ${tasks} tasks of one package | ${shown(dry)} | | | |`)
+}
+
 console.log('| shape, packages | first run | make -j10 | ninja -j10 | npm | of make | nothing changed | floor | of the floor | of npm | one edit | memory, MB of inputs |')
 console.log('|---|---|---|---|---|---|---|---|---|---|---|---|')
 for (const count of COUNTS) {
@@ -195,3 +227,8 @@ for (const count of COUNTS) {
   }
 }
 edits(COUNTS[COUNTS.length > 1 ? 1 : 0])
+
+console.log('\n| `--dry` of | listed | `find` | `find`, `cat` and `sha256sum` | of these |')
+console.log('|---|---|---|---|---|')
+for (const [packages, files] of LISTED) listed(packages, files)
+for (const tasks of PLANNED) planned(tasks)

@@ -1,37 +1,38 @@
-//! How fast a store of results is filled, opened, asked and restored from, over a file, and how much memory that takes.
+//! How fast a store of results is filled, opened, asked, restored from and compacted, over a file, and how much memory
+//! that takes; and how fast a log is appended to and opened.
 //!
-//! Words: `fill PATH RECORDS`, for a store of so many results of about 10 KB, written anew; `open PATH RECORDS`, for its
-//! opening with the fingerprints of all keys; `plan PATH RECORDS`, for an opening with those of 1,000 keys alone; both ask
-//! then for a key that is not there and for keys that are, restore, and put one result more. Without words it says these.
+//! - `fill PATH RECORDS`: a store of so many results of about 10 KB, written anew.
+//! - `open PATH RECORDS`: its opening with the fingerprints of all keys; `plan PATH RECORDS`: with those of 1,000 keys
+//!   alone. Both ask then for a key that is not there and for keys that are, restore, and put one result more.
+//! - `compact FROM TO`: the compaction of one store into another, which is written anew.
+//! - `log memory COUNT BYTES` and `log file PATH COUNT BYTES`: so many pairs with values of so many bytes.
+//! - `log batch PATH`: frames one by one and at once; `log opening PATH`: a log of many frames. The file is written anew.
+//!
+//! Without words it says these.
 #![tactic(auto)]
 
 ghost use Rattle.pair_reader.specs.Answers.{Ascend};
 
 mod asking;
+mod batches;
+mod compaction;
+mod file;
+mod logs;
 mod memory;
 mod results;
 
 use crate::asking::{ask, fill};
+use crate::compaction::bench_compaction;
+use crate::file::{FileStore, file_at};
+use crate::logs::bench_log;
 use crate::memory::peak;
 use crate::results::plan_lengths;
 use anyhow::{Result, bail};
 use artifact_store::Store;
-use file_store::FileStore;
 use pair_reader::Lengths;
 use std::alloc::Global;
 use std::env;
-use std::fs::{File, OpenOptions};
 use std::time::Instant;
-
-fn file_at(rt: &HostRuntime, path: &str, anew: bool) -> Result<File> {
-    let file = OpenOptions::new()
-        .read(true)
-        .write(true)
-        .create(true)
-        .truncate(anew)
-        .open(rt, path)?;
-    Ok(file)
-}
 
 fn fill_at(rt: &HostRuntime, path: &str, records: u64) -> Result<()> {
     let alloc = rt.alloc();
@@ -79,8 +80,12 @@ fn main(rt: HostRuntime) -> Result<()> {
             let records = records.as_str().parse::<u64>()?;
             open_at(&rt, path.as_str(), records, lengths)
         }
+        [word, from, to] if word.as_str() == "compact" => {
+            bench_compaction(&rt, from.as_str(), to.as_str())
+        }
+        [word, words @ ..] if word.as_str() == "log" => bench_log(&rt, words),
         _ => {
-            println!(rt; "store_bench: fill, open or plan, each with PATH RECORDS")?;
+            println!(rt; "store_bench: fill, open or plan PATH RECORDS, compact FROM TO, or log")?;
             Ok(())
         }
     }
