@@ -9,7 +9,8 @@ use Rattle.codes.specs.Reading.{items_step}
 use Rattle.pair_frames.specs.declared.limits.TheConstants.{MAGIC_BYTES}
 use Rattle.pair_frames.specs.Runs.{NamedBytes, file_runs, read_files, list_runs, key_magic, key_runs}
 use Rattle.pair_frames.specs.Runs.Run.{Plain}
-use Rattle.pair_writer.specs.Lists.{is_taken, rest_of, lists_files}
+use Rattle.pair_writer.specs.Lists.{is_taken, lists_files}
+use Rattle.pair_writer.specs.FileTexts.{bytes_read}
 
 -- a path and the bytes of its file
 abbrev pub read_named : List ℕ → Taken NamedBytes
@@ -133,11 +134,28 @@ unfolding key_runs
 plain_runs key none =
     plain_by (bytes_eq (take MAGIC_BYTES key) key_magic) key (read_files (drop MAGIC_BYTES key)) none
 
--- what was read, where what follows it is known
-pub rest_some : {A : Type 0} (t : Taken A) (more : List ℕ) → Some more ≡ rest_of t
-    → (x : A) × (t ≡ took x more)
-rest_some None more is = absurd cc
-rest_some (Some p) more is = let same : p.1 ≡ more = cc in (p.0, ap (λ (l : List ℕ). Some (p.0, l)) same)
+-- the file that was read, where its bytes and what follows it are known
+pub read_some : (t : Taken NamedBytes) (bytes more : List ℕ) → took bytes more ≡ bytes_read t
+    → (file : NamedBytes) × (t ≡ took file more) × (file.1 ≡ bytes)
+read_some None bytes more is = absurd cc
+read_some (Some p) bytes more is =
+    let same : (bytes, more) ≡ (p.0.1, p.1) = cc in (
+      p.0,
+      ap (λ (q : List ℕ × List ℕ). Some (p.0, q.1)) (sym same),
+      ap (λ (q : List ℕ × List ℕ). q.0) (sym same),
+    )
+
+-- no file was read, so no list of files is
+none_read : (t : Taken NamedBytes) → None ≡ bytes_read t → t ≡ None
+none_read None none = refl
+none_read (Some p) none = absurd cc
+
+pub items_none : (n : ℕ) (files : List NamedBytes) (rest : List ℕ) → 0 < n
+    → None ≡ bytes_read (read_named rest) → read_items read_named files n rest ≡ None
+items_none zero files rest some none = absurd (omega arith)
+items_none (suc n) files rest some none =
+    ap (λ (t : Taken NamedBytes). then_read t (λ f more. read_items read_named (files ++ f ∷ []) n more))
+    (none_read (read_named rest) none)
 
 count_by : (bytes : List ℕ) (t : Taken ℕ) → read_word bytes ≡ t
     → is_taken (read_files bytes) ≡ true → is_taken t ≡ true

@@ -3,6 +3,8 @@ pub mod Keeping
 pub mod Pools
 pub mod Adding
 pub mod Files
+pub mod FileTexts
+pub mod Joined
 pub mod Cuts
 pub mod Paths
 pub mod Pairs

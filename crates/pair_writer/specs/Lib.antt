@@ -4,6 +4,8 @@ pub mod Staged
 pub mod Pieces
 pub mod Cuts
 pub mod Lists
+pub mod FileTexts
+pub mod Joined
 pub mod Putting
 pub mod Learning
 pub mod Laws

@@ -1,5 +1,5 @@
 -- The list of files at the front of bytes, looked over.
-use Rattle.std.specs.Prelude.{ℕ, Bool, true, false, ◌&&◌, bytes_eq, List, take, drop, Option, Some, None}
+use Rattle.std.specs.Prelude.{ℕ, Bool, true, false, ◌&&◌, bytes_eq, List, take, drop, Some, None}
 use Rattle.codes.specs.Codes.{Taken}
 use Rattle.pair_frames.specs.declared.limits.TheConstants.{MAGIC_BYTES}
 use Rattle.pair_frames.specs.Runs.{read_files, key_magic}
@@ -7,11 +7,6 @@ use Rattle.pair_frames.specs.Runs.{read_files, key_magic}
 abbrev pub is_taken : {A : Type 0} → Taken A → Bool
 is_taken None = false
 is_taken (Some _) = true
-
--- what follows what was read
-abbrev pub rest_of : {A : Type 0} → Taken A → Option (List ℕ)
-rest_of None = None
-rest_of (Some p) = Some p.1
 
 -- the key begins as one that lists files
 abbrev pub lists_files : List ℕ → Bool

@@ -3,8 +3,9 @@
 //! A pair is put as a frame for each content that none keeps yet, and a record that names the
 //! contents. [`stage_all`] makes these frames for several pairs and writes nothing: contents that
 //! the log keeps or that were staged before are named, and the others are staged once, without a
-//! copy. A pair whose frames do not fit in the room is left out. For an empty log, and two pairs
-//! with the keys `k` and `m`, each with a log of 3 bytes and the same file `a/x` of 64 bytes:
+//! copy. The files of all pairs are hashed together, before the first is staged. A pair whose
+//! frames do not fit in the room is left out. For an empty log, and two pairs with the keys `k`
+//! and `m`, each with a log of 3 bytes and the same file `a/x` of 64 bytes:
 //!
 //! ```text
 //! need_of_pair        222: 106 for the content, 116 for the record
@@ -24,6 +25,7 @@
 mod contents;
 mod cutting;
 mod frame;
+mod hashing;
 mod kept;
 mod learning;
 mod lists;

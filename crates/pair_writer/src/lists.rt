@@ -1,12 +1,14 @@
 // The list of files of a key, looked over.
-ghost use Rattle.std.specs.Prelude.{◌≡◌};
-ghost use Rattle.std.specs.Option.{option_map};
+ghost use Rattle.std.specs.Prelude.{◌≡◌, map, IfOk};
 ghost use Rattle.codes.specs.Codes.{read_str, read_both};
+ghost use Rattle.codes.specs.Views.{taken_by};
 ghost use Rattle.pair_frames.specs.Runs.{read_files};
-ghost use Rattle.pair_writer.specs.Lists.{is_taken, rest_of, lists_files};
+ghost use Rattle.pair_writer.specs.Lists.{is_taken, lists_files};
+ghost use Rattle.pair_writer.specs.FileTexts.{bytes_read, texts_read, key_texts};
 
 use codes::{str_at, word_at};
 use pair_frames::MAGIC_BYTES;
+use std::alloc::{AllocError, Global};
 
 /// How a key begins.
 const MAGIC: &[u8] = b"TURBKEY1";
@@ -31,7 +33,7 @@ fn is_list(bytes: &[u8]) -> bool
     };
     let mut rest = first;
     for i in 0..count {
-        let Some(more) = behind_file(rest) else {
+        let Some((_, more)) = file_at(rest) else {
             return false;
         };
         rest = more;
@@ -39,12 +41,47 @@ fn is_list(bytes: &[u8]) -> bool
     true
 }
 
-/// What follows a path and the bytes of its file.
+/// The bytes of the files that a key lists, in its order. There are none where it lists no files.
+pub(crate) fn key_texts<'a>(alloc: Global, key: &'a [u8]) -> Result<Vec<&'a [u8]>, AllocError>
+    ensures { IfOk result (λ texts. map (λ text. text.now) texts.items ≡ key_texts key.now) }
+{
+    let Some((magic, list)) = key.split_at_checked(MAGIC_BYTES as usize) else {
+        return Ok(Vec::new(alloc));
+    };
+    if magic != MAGIC {
+        return Ok(Vec::new(alloc));
+    }
+    list_texts(alloc, list)
+}
+
+/// The bytes of the files of the list at the front. There are none where no list stands there.
+#[tactic(auto, unfolding(pair_frames::specs::Runs::read_files, codes::specs::Codes::read_list))]
+fn list_texts<'a>(alloc: Global, bytes: &'a [u8]) -> Result<Vec<&'a [u8]>, AllocError>
+    ensures { IfOk result (λ texts.
+        map (λ text. text.now) texts.items ≡ texts_read (read_files bytes.now)) }
+{
+    let mut texts = Vec::new(alloc);
+    let Some((count, first)) = word_at(bytes) else {
+        return Ok(texts);
+    };
+    let mut rest = first;
+    for i in 0..count {
+        let Some((text, more)) = file_at(rest) else {
+            return Ok(Vec::new(alloc));
+        };
+        texts.push(text)?;
+        rest = more;
+    }
+    Ok(texts)
+}
+
+/// The bytes of the file at the front, behind its path, and what follows them.
 #[tactic(auto, unfolding(codes::specs::Codes::read_both))]
-fn behind_file(bytes: &[u8]) -> Option<&[u8]>
-    ensures { option_map (λ r. r.now) result ≡ rest_of (read_both read_str read_str bytes.now) }
+fn file_at(bytes: &[u8]) -> Option<(&[u8], &[u8])>
+    ensures { taken_by (λ p. p.0.now) (λ p. p.1.now) result
+        ≡ bytes_read (read_both read_str read_str bytes.now) }
 {
     let (_, behind) = str_at(bytes)?;
-    let (_, rest) = str_at(behind)?;
-    Some(rest)
+    let (text, rest) = str_at(behind)?;
+    Some((text, rest))
 }

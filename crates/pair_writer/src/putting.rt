@@ -2,6 +2,7 @@
 ghost use Rattle.std.specs.Prelude.{◌≡◌, ◌≤◌, ◌<◌, ◌-◌, ◌+◌, ◌^◌, ◌++◌, [], List, length, map, true, IsTrue, IfOk, IfErr, OnOk};
 ghost use Rattle.std.specs.Int.{w64};
 ghost use Rattle.rel_path.specs.Causes.{Counts};
+ghost use Rattle.sha2.specs.Sha256.{sha256};
 ghost use Rattle.cache_api.specs.Cache.{is_fault, IsFindErr, ArePut, ample};
 ghost use Rattle.cache_api.specs.Keys.{new_pairs};
 ghost use Rattle.cache_api.specs.Memory.{capped};
@@ -15,9 +16,11 @@ ghost use Rattle.pair_frames.specs.Puts.{literal_before, put_frames, put_size, f
 ghost use Rattle.pair_writer.specs.Pieces.{ArePieces, open_in, weight};
 ghost use Rattle.pair_writer.specs.Putting.{put_of, new_pair, IsOffered, IsShortOf};
 ghost use Rattle.pair_writer.specs.Staged.{entries, taken, Extends};
+ghost use Rattle.pair_writer.specs.FileTexts.{file_texts};
 
 use crate::Staged;
 use crate::cutting::{cut_artifact, cut_key};
+use crate::hashing::file_digests;
 use crate::pieces::Pieces;
 use blob_pool::Pool;
 use cache_api::{CacheErr, NewPair, Put, Puts};
@@ -57,10 +60,12 @@ pub fn stage_all<'a, S: StoreDevice>(
     ensures cause { Counts is_fault (S.store_faults (device_of log.old))
         (S.store_faults (device_of log.new)) result }
 {
+    let digests = file_digests(alloc, pairs)?;
     let mut staged = Staged::new(alloc);
     let mut puts = Puts::new(alloc);
-    for pair in pairs {
-        let put = offer(alloc, pool, log, room, &mut staged, *pair)?;
+    for (place, pair) in pairs.iter().enumerate() {
+        let own = digests[place].as_slice();
+        let put = offer(alloc, pool, log, room, &mut staged, *pair, own)?;
         puts.push(put)?;
     }
     Ok((staged, puts))
@@ -84,12 +89,13 @@ pub fn need_of_pair<S: StoreDevice>(
     ensures cause { Counts is_fault (S.store_faults (device_of log.old))
         (S.store_faults (device_of log.new)) result }
 {
+    let digests = file_digests(alloc, &[pair])?;
     let mut staged = Staged::new(alloc);
-    stage(alloc, pool, log, &mut staged, pair)?;
+    stage(alloc, pool, log, &mut staged, pair, digests[0].as_slice())?;
     Ok(staged.size())
 }
 
-/// Stages the frames of a pair where they fit in what the room leaves.
+/// Stages the frames of a pair, whose files have these digests, where they fit in what the room leaves.
 fn offer<'a, S: StoreDevice>(
     alloc: Global,
     pool: &Pool,
@@ -97,8 +103,10 @@ fn offer<'a, S: StoreDevice>(
     room: u64,
     staged: &mut Staged<'a>,
     pair: NewPair<'a>,
+    digests: &[[u8; 32]],
 ) -> Result<Put, CacheErr>
     requires pool { Knows pool.now log.old }
+    requires digests { digests.now ≡ map sha256 (file_texts pair) }
     requires room { room < 2 ^ 63 }
     requires fits { taken staged.old ≤ room }
     ensures offered { S.tells → IfOk result
@@ -115,7 +123,7 @@ fn offer<'a, S: StoreDevice>(
 {
     let frames = staged.as_slice().len();
     let size = staged.size();
-    stage(alloc, pool, log, staged, pair)?;
+    stage(alloc, pool, log, staged, pair, digests)?;
     if staged.size() <= room {
         return Ok(Put::Stored);
     }
@@ -123,15 +131,17 @@ fn offer<'a, S: StoreDevice>(
     Ok(Put::Full)
 }
 
-/// Stages the frames of a pair.
+/// Stages the frames of a pair, whose files have these digests.
 fn stage<'a, S: StoreDevice>(
     alloc: Global,
     pool: &Pool,
     log: &mut Log<S>,
     staged: &mut Staged<'a>,
     pair: NewPair<'a>,
+    digests: &[[u8; 32]],
 ) -> Result<(), CacheErr>
-    requires { Knows pool.now log.old }
+    requires pool { Knows pool.now log.old }
+    requires digests { digests.now ≡ map sha256 (file_texts pair) }
     ensures frames { S.tells → OnOk result (entries staged.new ≡ entries staged.old
         ++ put_frames (known_in log.old ++ entries staged.old) (new_pair pair.entry)) }
     ensures grown { OnOk result (Extends (entries staged.old) (entries staged.new)) }
@@ -143,10 +153,13 @@ fn stage<'a, S: StoreDevice>(
     ensures cause { Counts is_fault (S.store_faults (device_of log.old))
         (S.store_faults (device_of log.new)) result }
 {
+    let artifact = pair.artifact;
+    let listed = digests.len() - artifact.files.as_slice().len();
+    let (of_key, of_artifact) = digests.split_at(listed);
     let mut key = Pieces::new(alloc);
-    cut_key(alloc, pool, log, staged, &mut key, pair.key.text())?;
+    cut_key(alloc, pool, log, staged, &mut key, pair.key.text(), of_key)?;
     let mut value = Pieces::new(alloc);
-    cut_artifact(alloc, pool, log, staged, &mut value, pair.artifact)?;
+    cut_artifact(alloc, pool, log, staged, &mut value, artifact, of_artifact)?;
     let text = text_of(alloc, key, value)?;
     staged.push_record(*pair.key.print(), text)?;
     Ok(())

@@ -9,7 +9,6 @@ use crate::kept::kept;
 use blob_pool::Pool;
 use cache_api::CacheErr;
 use record_log::{CONTENT, LONG_RECORD, Log, NewFrame, need_of};
-use sha2::{Digest, Sha256};
 use std::alloc::{AllocError, Global};
 use std::mem;
 use store_dev::StoreDevice;
@@ -125,16 +124,18 @@ impl<'a> Staged<'a> {
         Ok(())
     }
 
-    /// Keeps these bytes, once: it answers the number that the first content that is these bytes has, where those staged
-    /// stand behind those of the log. Where there is none it stages one.
+    /// Keeps these bytes, which have that digest, once: it answers the number that the first content that is these bytes has,
+    /// where those staged stand behind those of the log. Where there is none it stages one.
     pub(crate) fn keep<S: StoreDevice>(
         &mut self,
         alloc: Global,
         pool: &Pool,
         log: &mut Log<S>,
+        digest: [u8; 32],
         bytes: &'a [u8],
     ) -> Result<u64, CacheErr>
         requires pool { Knows pool.now log.old }
+        requires digest { digest ≡ sha256 bytes.now }
         requires content { is_content bytes.now ≡ true }
         ensures number { S.tells → IfOk result
             (λ n. first_of (known_in log.old ++ entries self.new) bytes.now ≡ Some n) }
@@ -146,7 +147,6 @@ impl<'a> Staged<'a> {
         ensures cause { Counts is_fault (S.store_faults (device_of log.old))
             (S.store_faults (device_of log.new)) result }
     {
-        let digest = Sha256::digest(bytes);
         if let Some(number) = kept(alloc, pool, log, &digest, bytes)? {
             return Ok(number);
         }

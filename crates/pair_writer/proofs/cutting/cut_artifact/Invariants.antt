@@ -9,12 +9,12 @@ use Rattle.pair_writer.specs.Cuts.{IsCut}
 use Rattle.pair_writer.proofs.cutting.cut_artifact.Given as goal
 
 -- the files so far
-abbrev pub invariant-loop-file : goal.invariant-loop-file
-invariant-loop-file g l = record {
+abbrev pub invariant-loop-place : goal.invariant-loop-place
+invariant-loop-place g l = record {
   log : OnlyReadsLog l.fn.log l.log;
   faults : g.S.StoreDevice.store_faults (device_of l.log) ≡ g.S.StoreDevice.store_faults (device_of l.fn.log);
   cut : IsCut g.S.StoreDevice.tells (known_in l.fn.log) l.fn.staged l.staged l.fn.pieces l.pieces
       (Plain (str l.artifact.log ++ word (length l.files))
-      ∷ file_runs (map named_file (take l.file-index l.files)));
-  each : Each (AreBoth PathFits IsShort) (take l.file-index l.files);
+      ∷ file_runs (map named_file (take l.place l.files)));
+  each : Each (AreBoth PathFits IsShort) (take l.place l.files);
 }

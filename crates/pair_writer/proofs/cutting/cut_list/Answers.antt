@@ -1,5 +1,6 @@
 use Rattle.std.proofs.Common.{rules, ◌≡◌, ℕ, ◌∷◌, ◌++◌, [], List, refl, sym, subst, ap, ◌∙◌, arith}
 use denote.Bor.{Bor}
+use Rattle.sha2.specs.Sha256.{sha256}
 use Rattle.codes.specs.Codes.{AreBytes, word, read_word, read_str}
 use Rattle.blob_pool.specs.Known.{known_in}
 use Rattle.blob_pool.specs.Laws.{reads_log_none, reads_log_both, known_read, knows_read}
@@ -9,6 +10,7 @@ use Rattle.pair_writer.specs.Cuts.{IsCut}
 use Rattle.pair_writer.specs.Lists.{is_taken}
 use Rattle.pair_writer.proofs.Cuts.{bytes_both, word_bytes, cut_plain, cut_both, cut_next, adds_two}
 use Rattle.pair_writer.proofs.Files.{count_there, magic_there, name_there, bytes_there, listed_none, listed_next, listed_runs, took_is, some_of}
+use Rattle.pair_writer.proofs.FileTexts.{member_digest}
 use Rattle.pair_writer.proofs.cutting.cut_list.Goals as goal
 
 abbrev Word : Type 0
@@ -118,6 +120,24 @@ returns-clause-cut g c =
     (cut_both tells fs s t t p q r (Plain (key_magic ++ word n) ∷ file_runs files) (Plain rest ∷ []) cut
     (cut_plain tells fs t q r rest c.in_ok-plain-2.ensures.bytes c.in_ok-plain-2.ensures.added))
 
-pub cut_named-requires : goal.cut_named-requires
-cut_named-requires g c =
+pub cut_named-requires-clause-pool : goal.cut_named-requires-clause-pool
+cut_named-requires-clause-pool g c =
     knows_read c.args.pool.now c.args.log.now c.loop-i.log c.requires.pool c.loop-i.invariant.log
+
+pub bounds-digests-i : goal.bounds-digests-i
+bounds-digests-i g c =
+    let (files, listed, cut) = c.loop-i.invariant.found in
+    let rest = c.loop-i.rest.now in
+    let behind = c.unwrap.result.1.now in
+    let first = took_is text_in behind_text c.str_at.result c.unwrap.result (read_str rest) c.str_at.ensures c.unwrap.ensures in
+    let second = took_is text_in behind_text c.str_at-in-loop-i.result c.unwrap-in-loop-i.result (read_str behind) c.str_at-in-loop-i.ensures c.unwrap-in-loop-i.ensures in
+    (member_digest sha256 c.args.key.now c.unwrap-count.result.0 c.loop-i.i rest c.unwrap.result.0.now behind c.unwrap-in-loop-i.result.0.now c.unwrap-in-loop-i.result.1.now files c.args.digests.now c.requires.list listed c.loop-i-test.true first second c.requires.digests).inside
+
+pub cut_named-requires-clause-digest : goal.cut_named-requires-clause-digest
+cut_named-requires-clause-digest g c =
+    let (files, listed, cut) = c.loop-i.invariant.found in
+    let rest = c.loop-i.rest.now in
+    let behind = c.unwrap.result.1.now in
+    let first = took_is text_in behind_text c.str_at.result c.unwrap.result (read_str rest) c.str_at.ensures c.unwrap.ensures in
+    let second = took_is text_in behind_text c.str_at-in-loop-i.result c.unwrap-in-loop-i.result (read_str behind) c.str_at-in-loop-i.ensures c.unwrap-in-loop-i.ensures in
+    (member_digest sha256 c.args.key.now c.unwrap-count.result.0 c.loop-i.i rest c.unwrap.result.0.now behind c.unwrap-in-loop-i.result.0.now c.unwrap-in-loop-i.result.1.now files c.args.digests.now c.requires.list listed c.loop-i-test.true first second c.requires.digests).is []

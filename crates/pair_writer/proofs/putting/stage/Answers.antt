@@ -1,6 +1,8 @@
-use Rattle.std.proofs.Common.{ℕ, List, [], ◌∷◌, ◌++◌, ap, subst, ◌∙◌}
+use Rattle.std.proofs.Common.{◌≡◌, ℕ, ◌+◌, ◌-◌, List, [], ◌∷◌, ◌++◌, length, sym, ap, subst, ◌∙◌, arith}
+use Rattle.std.proofs.lemmas.List.{length-map}
+use Rattle.sha2.specs.Sha256.{sha256}
 use Rattle.codes.specs.Codes.{AreBytes}
-use Rattle.cache_api.specs.Artifacts.{artifact}
+use Rattle.cache_api.specs.Artifacts.{File, artifact}
 use Rattle.cache_api.specs.Keys.{text_of}
 use Rattle.record_log.specs.declared.kind.TheConstants.{LONG_RECORD}
 use Rattle.record_log.specs.Kinds.{Entry, entry}
@@ -9,6 +11,8 @@ use Rattle.blob_pool.specs.Laws.{known_read}
 use Rattle.pair_frames.specs.Runs.{key_runs, artifact_runs}
 use Rattle.pair_writer.specs.Staged.{entries}
 use Rattle.pair_writer.specs.Cuts.{IsCut}
+use Rattle.pair_writer.specs.FileTexts.{key_texts, artifact_texts}
+use Rattle.pair_writer.proofs.FileTexts.{no_more, of_both}
 use Rattle.pair_writer.proofs.Cuts.{extends_both}
 use Rattle.pair_writer.proofs.Pairs.{flat_artifact, stage_frames, stage_size}
 use Rattle.pair_writer.proofs.putting.stage.Goals as goal
@@ -66,3 +70,15 @@ returns-clause-texts g c = record {
   key = subst AreBytes c.text.ensures c.cut_key.ensures.bytes;
   value = subst AreBytes (flat_artifact (artifact c.args.pair.artifact.now)) c.in_ok-cut_artifact.ensures.cut.bytes;
 }
+
+pub cut_artifact-requires-clause-digests : goal.cut_artifact-requires-clause-digests
+cut_artifact-requires-clause-digests g c =
+    let a = artifact c.args.pair.artifact.now in
+    let digests = c.args.digests.now in
+    let files = c.as_slice.result.now in
+    let listed = key_texts (text_of c.args.pair.key) in
+    let many : length (artifact_texts a) ≡ length files = length-map a.1 (λ (f : File). f.1) ∙ sym (ap length c.as_slice.ensures) in
+    let enough = no_more sha256 listed (artifact_texts a) digests c.requires.digests in
+    let split : length digests - length files + length (artifact_texts a) ≡ length digests = omega (arith, many, enough) in
+    c.split_at.ensures.back
+    ∙ (of_both sha256 listed (artifact_texts a) digests (length digests - length files) c.requires.digests split).back

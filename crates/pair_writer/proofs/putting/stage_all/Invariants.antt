@@ -10,12 +10,12 @@ use Rattle.pair_writer.proofs.Offers.{AreOffered}
 use Rattle.pair_writer.proofs.putting.stage_all.Given as goal
 
 -- the pairs so far
-abbrev pub invariant-loop-pair : goal.invariant-loop-pair
-invariant-loop-pair g l = record {
+abbrev pub invariant-loop-place : goal.invariant-loop-place
+invariant-loop-place g l = record {
   log : OnlyReadsLog l.fn.log l.log;
   faults : g.S.StoreDevice.store_faults (device_of l.log) ≡ g.S.StoreDevice.store_faults (device_of l.fn.log);
   fits : taken l.staged ≤ l.room;
-  offered : g.S.StoreDevice.tells → AreOffered l.room (known_in l.fn.log) l.staged (new_pairs (take l.pair-index l.pairs)) l.puts;
-  texts : Each AreTexts (new_pairs (take l.pair-index l.pairs));
-  full : ArePut (l.room - taken l.staged) (new_pairs (take l.pair-index l.pairs)) l.puts;
+  offered : g.S.StoreDevice.tells → AreOffered l.room (known_in l.fn.log) l.staged (new_pairs (take l.place l.pairs)) l.puts;
+  texts : Each AreTexts (new_pairs (take l.place l.pairs));
+  full : ArePut (l.room - taken l.staged) (new_pairs (take l.place l.pairs)) l.puts;
 }
