@@ -92,9 +92,3 @@ eq_not fs gs pieces i d left all lt same other so_far =
     ∙ ap (λ (es : List Entry). piece_bytes (contents_of es) piece ++ tail) (sym same)
     ))
     )
-
--- bytes in a buffer that was emptied before
-pub fresh : (before bytes_now buffer cleared bytes : List ℕ) → bytes_now ≡ buffer
-    → buffer ≡ cleared ++ bytes → cleared ≡ [] → before ++ bytes_now ≡ before ++ bytes
-fresh before bytes_now buffer cleared bytes is added empty =
-    ap (λ (l : List ℕ). before ++ l) (is ∙ added ∙ ap (λ (l : List ℕ). l ++ bytes) empty)

@@ -34,7 +34,11 @@ abbrev pub Ascend : Lengths → Type 0
 Ascend All = Unit {0}
 Ascend (Only lens) = Rise lens.items
 
--- the fingerprint, where it is wanted
+-- the text of a key, where it is wanted
+abbrev pub text_where : Bool → List ℕ → Option (List ℕ)
+text_where wanted key = if wanted then Some key else None
+
+-- its fingerprint, where that is wanted
 abbrev pub print_where : Bool → List ℕ → Option (List ℕ)
 print_where wanted key = if wanted then Some (sha256 key) else None
 

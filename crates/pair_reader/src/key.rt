@@ -6,41 +6,42 @@ ghost use Rattle.record_log.specs.Log.{device_of, count_of};
 ghost use Rattle.blob_pool.specs.Known.{Knows, OnlyReadsLog, known_in};
 ghost use Rattle.pair_frames.specs.Pairs.{holds_pair};
 ghost use Rattle.pair_reader.specs.Frames.{frame_of, pair_at, reads_of};
-ghost use Rattle.pair_reader.specs.Answers.{Ascend, ReadsAtMost, is_one_of, print_where};
+ghost use Rattle.pair_reader.specs.Answers.{Ascend, ReadsAtMost, is_one_of, text_where};
 
 use crate::calls::frame_at;
 use crate::parse::pieces_in;
-use crate::walk::{length, print_of};
+use crate::walk::{joined, length};
 use crate::wanted::Lengths;
 use blob_pool::Pool;
 use cache_api::CacheErr;
 use record_log::Log;
+use rel_path::Bytes;
 use std::alloc::Global;
 use store_dev::StoreDevice;
 
-/// The length of a key, and its fingerprint (SHA-256, FIPS 180-4), where that is wanted.
-#[derive(Clone, Copy, Debug)]
-pub struct KeyAt {
+/// The length of a key, and its text, where that is wanted.
+#[derive(Debug, Drop)]
+pub struct KeyText {
     pub len: u64,
-    pub print: Option<[u8; 32]>,
+    pub text: Option<Bytes>,
 }
 
-/// What is told of the key of the pair in that frame. A content is read only to be hashed.
-pub fn key_at<S: StoreDevice>(
+/// What is told of the key of the pair in that frame. A content is read only for the text.
+pub fn key_text_at<S: StoreDevice>(
     alloc: Global,
     pool: &Pool,
     log: &mut Log<S>,
     number: u64,
     wanted: &Lengths,
-) -> Result<KeyAt, CacheErr>
+) -> Result<KeyText, CacheErr>
     requires number { number < count_of log.old }
     requires pool { Knows pool.now log.old }
     requires pair { S.tells → IsTrue (holds_pair (frame_of (known_in log.old) number).kind) }
     requires wanted { Ascend wanted.now }
     ensures len { S.tells → IfOk result (λ k.
         k.len ≡ min (length (pair_at (known_in log.old) number).0) (2 ^ 64 - 1)) }
-    ensures print { S.tells → IfOk result (λ k.
-        k.print ≡ print_where (is_one_of wanted.now k.len) (pair_at (known_in log.old) number).0) }
+    ensures text { S.tells → IfOk result (λ k.
+        k.text ≡ text_where (is_one_of wanted.now k.len) (pair_at (known_in log.old) number).0) }
     ensures reads { S.tells → ReadsAtMost (reads_of (known_in log.old) number) log.old log.new }
     ensures log { OnlyReadsLog log.old log.new }
     ensures answers { IfErr result IsFindErr }
@@ -52,11 +53,11 @@ pub fn key_at<S: StoreDevice>(
     let key = pieces.key.as_slice();
     let len = length(key);
     if !wanted.holds(len) {
-        return Ok(KeyAt { len, print: None });
+        return Ok(KeyText { len, text: None });
     }
-    let print = print_of(alloc, pool, log, key)?;
-    Ok(KeyAt {
+    let text = joined(alloc, pool, log, key)?;
+    Ok(KeyText {
         len,
-        print: Some(print),
+        text: Some(Bytes::from_vec(text)),
     })
 }

@@ -1,7 +1,7 @@
 //! The pairs in a log's frames, read.
 //!
 //! A pair stands in one frame, whole or as pieces: a piece is bytes in the frame itself, or names
-//! a content of the log's pool. [`key_at`] tells a key's length and fingerprint, [`pair_at`]
+//! a content of the log's pool. [`key_text_at`] tells a key's length and text, [`pair_at`]
 //! reads a pair whole, and [`given`] tells where the artifact of a pair stands, with none of the
 //! bytes of its files read if they are contents. Frames are numbered from 0; lengths and places
 //! are in bytes, the latter from the beginning of the file. Let frame 0 be a content of 64 bytes,
@@ -9,11 +9,11 @@
 //! 3 bytes and that content as its file `a/x`. For a task that owns `a/x`:
 //!
 //! ```text
-//! key_at, frame 1, All            length 1, and the SHA-256 of `k`
-//! key_at, frame 1, Only [160]     length 1, and no fingerprint
-//! pair_at, frame 1                `k`, and the artifact's text
-//! given, frame 1, `k`             the log is 3 bytes at 203, and `a/x` is 64 bytes at 50
-//! given, frame 1, `m`             None
+//! key_text_at, frame 1, All           length 1, and the text `k`
+//! key_text_at, frame 1, Only [160]    length 1, and no text
+//! pair_at, frame 1                    `k`, and the artifact's text
+//! given, frame 1, `k`                 the log is 3 bytes at 203, and `a/x` is 64 bytes at 50
+//! given, frame 1, `m`                 None
 //! ```
 //!
 //! [`given`] answers `None` also where the value is no artifact, or the task does not own all of
@@ -37,6 +37,6 @@ mod walk;
 mod wanted;
 
 pub use hit::given;
-pub use key::{KeyAt, key_at};
+pub use key::{KeyText, key_text_at};
 pub use pair::pair_at;
 pub use wanted::Lengths;

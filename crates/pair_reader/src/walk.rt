@@ -1,6 +1,5 @@
 // Going over pieces.
 ghost use Rattle.std.specs.Prelude.{◌≡◌, ◌<◌, ◌≤◌, ◌-◌, ◌^◌, ◌++◌, ◌∷◌, [], List, ℕ, min, length, bytes_eq, IfOk, IfErr, OnOk};
-ghost use Rattle.sha2.specs.Sha256.{sha256};
 ghost use Rattle.rel_path.specs.Causes.{Counts};
 ghost use Rattle.cache_api.specs.Cache.{is_fault, IsFindErr};
 ghost use Rattle.record_log.specs.Frames.{text_of};
@@ -17,7 +16,6 @@ use crate::piece::PieceAt;
 use blob_pool::Pool;
 use cache_api::CacheErr;
 use record_log::Log;
-use sha2::{Digest, Sha256};
 use std::alloc::Global;
 use store_dev::StoreDevice;
 
@@ -55,33 +53,6 @@ pub(crate) fn joined<S: StoreDevice>(
         add(pool, log, *piece, &mut bytes)?;
     }
     Ok(bytes)
-}
-
-/// The fingerprint of the pieces' bytes: their SHA-256 (FIPS 180-4). They are hashed as they come.
-pub(crate) fn print_of<S: StoreDevice>(
-    alloc: Global,
-    pool: &Pool,
-    log: &mut Log<S>,
-    pieces: &[PieceAt],
-) -> Result<[u8; 32], CacheErr>
-    requires pool { Knows pool.now log.old }
-    requires there { AreThere (count_in pool.now) pieces.now }
-    ensures print { S.tells → IfOk result (λ print.
-        print ≡ sha256 (bytes_of (contents_of (known_in log.old)) pieces.now)) }
-    ensures reads { ReadsAtMost (contents_among (pieces_of pieces.now)) log.old log.new }
-    ensures log { OnlyReadsLog log.old log.new }
-    ensures answers { IfErr result IsFindErr }
-    ensures cause { Counts is_fault (S.store_faults (device_of log.old))
-        (S.store_faults (device_of log.new)) result }
-{
-    let mut hasher = Sha256::new();
-    let mut buffer = Vec::new(alloc);
-    for piece in pieces {
-        buffer.clear();
-        add(pool, log, *piece, &mut buffer)?;
-        hasher.update(buffer.as_slice());
-    }
-    Ok(hasher.finalize())
 }
 
 /// Adds the bytes of a piece.

@@ -2,7 +2,7 @@
 ghost use Rattle.std.specs.Prelude.{◌≡◌};
 ghost use Rattle.pair_reader.specs.Answers.{is_one_of, is_among, Ascend, Rise};
 
-/// Whose keys' fingerprints are wanted: all, or those of keys of these lengths, which ascend.
+/// Whose keys' texts are wanted: all, or those of keys of these lengths, which ascend.
 #[derive(Debug, Drop)]
 pub enum Lengths {
     All,
