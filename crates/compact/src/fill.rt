@@ -2,6 +2,7 @@
 ghost use Rattle.std.specs.Prelude.{◌≡◌, ◌↔◌, ◌≤◌, ◌<◌, ◌∷◌, ◌++◌, [], take, length, map};
 ghost use Rattle.std.specs.Prelude.{sum_by, All, IsTrue, IfOk, IfErr, OnOk};
 ghost use Rattle.rel_path.specs.Causes.{Counts};
+ghost use Rattle.sha2.specs.Sha256.{sha256};
 ghost use Rattle.codes.specs.Codes.{Each};
 ghost use Rattle.cache_api.specs.Cache.{is_fault as is_find_fault, IsFindErr, ample};
 ghost use Rattle.cache_api.specs.Keys.{new_pairs};
@@ -16,6 +17,7 @@ use crate::CompactErr;
 use crate::held::{Held, read_held};
 use artifact_store::Store;
 use cache_api::{Cache, CacheErr, Key, NewPair, Put};
+use sha_lanes::digests;
 use std::alloc::{AllocError, Global};
 use store_dev::StoreDevice;
 
@@ -221,14 +223,26 @@ fn put_fitting<P: StoreDevice>(
 fn new_pairs(alloc: Global, held: &[Held]) -> Result<Vec<NewPair>, AllocError>
     ensures { IfOk result (λ pairs. new_pairs pairs.items ≡ held_pairs held.now) }
 {
+    let prints = key_prints(alloc, held)?;
     let mut pairs = Vec::with_capacity(alloc, held.len())?;
-    for pair in held {
+    for (place, pair) in held.iter().enumerate() {
         pairs.push(NewPair {
-            key: Key::new(pair.key.as_slice()),
+            key: Key::with_print(pair.key.as_slice(), prints[place]),
             artifact: &pair.artifact,
         })?;
     }
     Ok(pairs)
+}
+
+/// The fingerprints of their keys, which are hashed together.
+fn key_prints(alloc: Global, held: &[Held]) -> Result<Vec<[u8; 32]>, AllocError>
+    ensures { IfOk result (λ prints. prints.items ≡ map (λ pair. sha256 pair.key) held.now) }
+{
+    let mut keys = Vec::with_capacity(alloc, held.len())?;
+    for pair in held {
+        keys.push(pair.key.as_slice())?;
+    }
+    digests(alloc, keys.as_slice())
 }
 
 /// Whether there was room for all of them.
