@@ -2,3 +2,4 @@ pub mod BoardFacts
 pub mod TurnFacts
 pub mod StoryFacts
 pub mod PageFacts
+pub mod AheadFacts

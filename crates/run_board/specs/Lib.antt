@@ -1,4 +1,5 @@
 pub mod Tables
 pub mod Boards
+pub mod Ahead
 pub mod Progress
 pub mod Causes

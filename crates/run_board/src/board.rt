@@ -5,7 +5,7 @@ use run_plan::Reports;
 
 /// What a run keeps of its tasks: how far each is, what is to be said of it, its log until that
 /// was said, whether it and all its ancestors came to a good end, the fingerprint of its key where
-/// it was looked up, and how many tasks were shown, in the order of the plan.
+/// that was hashed, and how many tasks were shown, in the order of the plan.
 #[derive(Drop)]
 pub struct Board {
     pub core: Core,

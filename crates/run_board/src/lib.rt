@@ -19,10 +19,16 @@
 //! all before those that are left. A block comes as soon as its task and all before it are
 //! settled.
 //!
+//! [`Board::fingerprint`] hashes the keys of the next tasks together with the one that is asked
+//! for, and keeps the fingerprints alone. The board stays the same but for these, whatever it
+//! answers.
+//!
 //! [`show_settled`] and [`conclude`] fail with `SinkFault` where the output failed, and with
-//! `OutOfMemory`; [`Board::new`] and the tables fail with `OutOfMemory`. The moves cannot fail.
+//! `OutOfMemory`; [`Board::new`], [`Board::fingerprint`] and the tables fail with `OutOfMemory`.
+//! The moves cannot fail.
 #![tactic(auto)]
 
+mod ahead;
 mod board;
 mod moves;
 mod showing;
