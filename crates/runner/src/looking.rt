@@ -118,8 +118,9 @@ fn ask<W: Spawner, C: Cache>(
 {
     story_law();
     halt_law();
+    let print = board.fingerprint(alloc, plan, place)?;
     let text = plan.key(alloc, place)?;
-    let key = Key::new(text.as_slice());
+    let key = Key::with_print(text.as_slice(), print);
     match look_up(alloc, key, &plan.part(place).outs, cache)? {
         None => {
             board.miss(plan, place, Some(*key.print()));

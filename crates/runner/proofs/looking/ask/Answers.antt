@@ -11,15 +11,18 @@ use Rattle.spawn_dev.specs.Spawn.{put_at}
 use Rattle.run_core.specs.declared.states.Next.TheVariants as turn
 use Rattle.run_core.specs.declared.states.State.TheVariants.{Passed, Missed}
 use Rattle.run_core.specs.Core.{rules, states}
-use Rattle.run_core.specs.Machine.{put, runs, is_done}
+use Rattle.run_core.specs.Machine.{next, put, runs, is_done}
 use Rattle.run_laws.specs.Ancestors.{part_at}
 use Rattle.run_laws.specs.Keys.{key_of}
 use Rattle.run_laws.specs.Marks.{found_for}
 use Rattle.run_laws.specs.Worlds.{logged}
 use Rattle.run_plan.specs.declared.report.Report.{Report}
 use Rattle.run_plan.specs.Pages.{digits_of}
+use Rattle.run_plan.specs.Reports.{report_in}
 use Rattle.runner.specs.Costs.{still_costs}
 use Rattle.run_board.specs.Progress.{now_of}
+use Rattle.run_board.specs.Tables.{log_in}
+use Rattle.run_board.proofs.AheadFacts.{move-ahead}
 use Rattle.run_board.proofs.TurnFacts.{board-next, board-waits}
 use Rattle.runner.proofs.CostFacts.{costs-same, look-less, waiting-costs}
 use Rattle.runner.proofs.FileFacts.{undone-only, undone-same}
@@ -30,11 +33,23 @@ use Rattle.runner.proofs.WorldFacts.{step-same, step-looked}
 mod Costs
 use Rattle.runner.proofs.looking.ask.Goals as goal
 
+pub returns-in_err-print-clause-halts : goal.returns-in_err-print-clause-halts
+returns-in_err-print-clause-halts g c told store =
+    let tree = g.W.Tree.state c.args.world.now in
+    let cache = g.C.Cache.state c.args.cache.now in
+    let p = err_from_is_err_and c.from_residual.result c.from_residual.ensures.1 in
+    rw p.1 (halts-here c.args.plan.now c.halt_law.ensures c.args.board.now g.W.Spawner.effect
+    (g.W.Spawner.runs c.args.world.now) tree cache.pairs cache.room c.requires.steps
+    (g.W.Spawner.runs c.args.world.now) tree.files cache.pairs cache.room refl
+    (undone-same c.args.plan.now (states c.args.board.now.core) tree.files tree.files refl) refl
+    (omega arith))
+
 pub returns-in_err-text-clause-halts : goal.returns-in_err-text-clause-halts
 returns-in_err-text-clause-halts g c told store =
     let tree = g.W.Tree.state c.args.world.now in
     let cache = g.C.Cache.state c.args.cache.now in
-    let p = err_from_is_err_and c.from_residual.result c.from_residual.ensures.1 in
+    let p = err_from_is_err_and c.from_residual-in_err-text.result
+    c.from_residual-in_err-text.ensures.1 in
     rw p.1 (halts-here c.args.plan.now c.halt_law.ensures c.args.board.now g.W.Spawner.effect
     (g.W.Spawner.runs c.args.world.now) tree cache.pairs cache.room c.requires.steps
     (g.W.Spawner.runs c.args.world.now) tree.files cache.pairs cache.room refl
@@ -55,13 +70,25 @@ returns-in_err-look_up-clause-halts g c told store =
     (undone-same c.args.plan.now (states c.args.board.now.core) tree.files tree.files refl)
     (reads.pairs store) reads.keeps.room)
 
+pub miss-requires-clause-next : goal.miss-requires-clause-next
+miss-requires-clause-next g c =
+    ap (λ core. next (rules core) (states core)) c.in_ok-print.ensures.ahead.core
+    ∙ c.requires.next
+
+pub returns-in-None-clause-moved : goal.returns-in-None-clause-moved
+returns-in-None-clause-moved g c =
+    move-ahead c.args.plan.now c.args.board.now c.fingerprint.new.self c.miss.new.self
+    c.in_ok-print.ensures.ahead c.miss.ensures.moved
+
 pub returns-in-None-clause-steps : goal.returns-in-None-clause-steps
 returns-in-None-clause-steps g c =
     let plan = c.args.plan.now in
     let st = states c.args.board.now.core in
     let waits = board-waits plan c.args.board.now c.requires.board c.args.place c.requires.next in
+    let missed = c.miss.ensures.states
+    ∙ ap (λ core. put (states core) c.args.place Missed) c.in_ok-print.ensures.ahead.core in
     step-looked plan c.requires.plan st (g.W.Spawner.runs c.args.world.now) c.args.place Missed
-    (states c.miss.new.self.core) c.miss.ensures.states waits refl
+    (states c.miss.new.self.core) missed waits refl
     (λ h. c.requires.script) c.requires.steps
 
 pub returns-in-None-clause-stands : goal.returns-in-None-clause-stands
@@ -76,17 +103,21 @@ returns-in-None-clause-stands g c told store o stands =
     let new = g.C.Cache.state c.look_up.new.cache in
     let now = now_of c.args.board.now g.W.Spawner.effect world tree cache in
     let look = c.in_ok-look_up.ensures in
-    let key = c.new-key.ensures ∙ c.as_slice.ensures ∙ c.in_ok-text.ensures.key in
+    let key = c.with_print-key.ensures ∙ c.as_slice.ensures ∙ c.in_ok-text.ensures.key in
     let outs = c.part.ensures in
     let none : found_for cache.pairs plan.listing t ≡ None =
     sym (look.found store ∙ (λ i. found artifact_in (key i) (outs i).outs cache.pairs))
     ∙ ap (found_as (g.C.Cache.shows c.look_up.new.cache)) c.in-None.is in
     let story = c.story_law.ensures.miss plan o now t new.room stands is c.requires.script
     look.reads.keeps.room (inr none) in
+    let ahead = c.in_ok-print.ensures.ahead in
     become plan o now (record now { states = put st t Missed; room = new.room })
     (now_of c.miss.new.self g.W.Spawner.effect world tree new) stands
-    (sym c.miss.ensures.states) refl refl refl refl (sym (look.reads.pairs store)) refl
-    (sym c.miss.ensures.reports) (sym c.miss.ensures.logs) (sym c.miss.ensures.shown) story
+    (sym (c.miss.ensures.states ∙ ap (λ core. put (states core) t Missed) ahead.core))
+    refl refl refl refl (sym (look.reads.pairs store)) refl
+    (sym (c.miss.ensures.reports ∙ ap report_in ahead.reports))
+    (sym (c.miss.ensures.logs ∙ ap log_in ahead.logs))
+    (sym (c.miss.ensures.shown ∙ ahead.shown)) story
 
 pub replay-requires-clause-free : goal.replay-requires-clause-free
 replay-requires-clause-free g c =
@@ -126,6 +157,16 @@ returns-in_err-digits-in-Some-clause-halts g c told store =
     (replay.reads.pairs store ∙ first.pairs store)
     (omega (arith, first.keeps.room, replay.reads.keeps.room)))
 
+pub hit-requires-clause-next : goal.hit-requires-clause-next
+hit-requires-clause-next g c =
+    ap (λ core. next (rules core) (states core)) c.in_ok-print.ensures.ahead.core
+    ∙ c.requires.next
+
+pub returns-clause-moved : goal.returns-clause-moved
+returns-clause-moved g c =
+    move-ahead c.args.plan.now c.args.board.now c.fingerprint.new.self c.hit.new.self
+    c.in_ok-print.ensures.ahead c.hit.ensures.moved
+
 pub returns-clause-steps : goal.returns-clause-steps
 returns-clause-steps g c =
     let plan = c.args.plan.now in
@@ -133,9 +174,11 @@ returns-clause-steps g c =
     let later = states c.hit.new.self.core in
     let old = g.W.Spawner.runs c.args.world.now in
     let waits = board-waits plan c.args.board.now c.requires.board c.args.place c.requires.next in
+    let passed = c.hit.ensures.states
+    ∙ ap (λ core. put (states core) c.args.place Passed) c.in_ok-print.ensures.ahead.core in
     step-same plan c.requires.plan later old (g.W.Spawner.runs c.replay.new.world)
     c.in_ok-digits-in-Some.ensures.runs
-    (step-looked plan c.requires.plan st old c.args.place Passed later c.hit.ensures.states
+    (step-looked plan c.requires.plan st old c.args.place Passed later passed
     waits refl (λ h. absurd (false≢true h)) c.requires.steps)
 
 pub returns-clause-stands : goal.returns-clause-stands
@@ -154,7 +197,7 @@ returns-clause-stands g c told store o stands =
     let look = c.in_ok-look_up.ensures in
     let replay = c.in_ok-digits-in-Some.ensures in
     let a = g.C.Cache.shows c.look_up.new.cache c.in-Some.hit in
-    let key = c.new-key.ensures ∙ c.as_slice.ensures ∙ c.in_ok-text.ensures.key in
+    let key = c.with_print-key.ensures ∙ c.as_slice.ensures ∙ c.in_ok-text.ensures.key in
     let outs = c.part.ensures in
     let some : found_for cache.pairs plan.listing t ≡ Some a =
     sym (look.found store ∙ (λ i. found artifact_in (key i) (outs i).outs cache.pairs))
@@ -167,6 +210,7 @@ returns-clause-stands g c told store o stands =
     } in
     let story = c.story_law.ensures.hit plan o now t last.room a stands is c.requires.script
     (omega (arith, look.reads.keeps.room, replay.reads.keeps.room)) c.requires.asks some in
+    let ahead = c.in_ok-print.ensures.ahead in
     become plan o now
     (record now {
       states = put st t Passed;
@@ -176,18 +220,19 @@ returns-clause-stands g c told store o stands =
       logs = put_at now.logs t a.0;
     })
     (now_of c.hit.new.self g.W.Spawner.effect new (g.W.Tree.state c.replay.new.world) last) stands
-    (sym c.hit.ensures.states) (ap (λ w. g.W.Spawner.effect w.book) (sym replay.runs))
+    (sym (c.hit.ensures.states ∙ ap (λ core. put (states core) t Passed) ahead.core))
+    (ap (λ w. g.W.Spawner.effect w.book) (sym replay.runs))
     (ap (λ w. w.steps) (sym replay.runs)) (ap (λ w. w.will) (sym replay.runs))
     (sym (replay.replayed told store)) (sym (replay.reads.pairs store ∙ look.reads.pairs store))
     refl
-    (sym (c.hit.ensures.reports ∙ (λ i. put_at now.reports t (Some (record {
+    (sym (c.hit.ensures.reports ∙ (λ i. put_at (report_in (ahead.reports i)) t (Some (record {
       mark = printed_mark.Hit;
       digits = replay.digits i;
       status = 0;
       note = printed_note.Stored;
     })))))
-    (sym (c.hit.ensures.logs ∙ (λ i. put_at now.logs t (replay.log store i))))
-    (sym c.hit.ensures.shown) story
+    (sym (c.hit.ensures.logs ∙ (λ i. put_at (log_in (ahead.logs i)) t (replay.log store i))))
+    (sym (c.hit.ensures.shown ∙ ahead.shown)) story
 
 pub returns-in_err-look_up-clause-spent : goal.returns-in_err-look_up-clause-spent
 returns-in_err-look_up-clause-spent = Costs.returns-in_err-look_up-clause-spent
