@@ -92,10 +92,10 @@ places_other first frames k f lt is other =
 
 -- ---- numbers that are below others
 
-abbrev Below : List ℕ → ℕ → Type 0
+abbrev pub Below : List ℕ → ℕ → Type 0
 Below xs n = (i : ℕ) → i < length xs → get_or xs i 0 < n
 
-below_cons : (x : ℕ) (xs : List ℕ) (n : ℕ) → x < n → Below xs n → Below (x ∷ xs) n
+pub below_cons : (x : ℕ) (xs : List ℕ) (n : ℕ) → x < n → Below xs n → Below (x ∷ xs) n
 below_cons x xs n lt all zero inside = lt
 below_cons x xs n lt all (suc i) inside = all i (omega (arith, inside))
 
@@ -111,7 +111,7 @@ places_below first (e ∷ es) n le =
     below_by (holds_pair e.kind) first (record_places (first + 1) es) n (omega (arith, le))
     (places_below (first + 1) es n (omega (arith, le)))
 
-below_both : (xs ys : List ℕ) (n m : ℕ) → Below xs n → Below ys m → n ≤ m → Below (xs ++ ys) m
+pub below_both : (xs ys : List ℕ) (n m : ℕ) → Below xs n → Below ys m → n ≤ m → Below (xs ++ ys) m
 below_both xs ys n m first second le i lt = elim (cases_lt i (length xs)) [
   | inl less ↦
       let same = get_or_append_left xs ys 0 i less in omega (arith, first i less, same)

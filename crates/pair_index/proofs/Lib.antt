@@ -1,4 +1,5 @@
 pub mod KeyLaws
 pub mod Places
 pub mod IndexLaws
+pub mod BatchLaws
 pub mod Rising

@@ -8,11 +8,8 @@ use Rattle.record_log.specs.Log.{count_of}
 use Rattle.blob_pool.specs.Known.{known_in}
 use Rattle.pair_frames.specs.Pairs.{pairs_in}
 use Rattle.pair_frames.specs.Reading.{record_places}
-use Rattle.cache_api.specs.Pairs.{Pair}
-use Rattle.pair_reader.specs.declared.key.KeyAt.{KeyAt}
-use Rattle.pair_reader.specs.Answers.{is_one_of, print_where}
 use Rattle.pair_index.specs.declared.index.Index.{Index}
-use Rattle.pair_index.specs.Keys.{IsKeysOf, len_of}
+use Rattle.pair_index.specs.Keys.{IsKeysOf}
 
 -- the numbers of the frames that hold pairs, by the numbers of the pairs
 abbrev pub frames_in : Index → List ℕ
@@ -20,11 +17,6 @@ frames_in index = index.frames.items
 
 abbrev pub lengths_in : Index → Lengths
 lengths_in index = index.keys.lengths
-
--- this is told of the key of the pair
-pub record IsKeyOf (lengths : Lengths) (pair : Pair) (key : KeyAt) : Type 0 where
-  pub len : key.len ≡ len_of pair
-  pub print : key.print ≡ print_where (is_one_of lengths key.len) pair.0
 
 -- how many frames more it can learn with no memory taken
 abbrev pub frame_room : Index → ℕ

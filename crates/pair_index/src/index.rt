@@ -1,13 +1,13 @@
 // Which pair stands in which frame.
 ghost use Rattle.std.specs.Prelude.{◌≡◌, ◌≤◌, ◌<◌, ◌+◌, ◌^◌, ◌++◌, ◌∷◌, [], ℕ, List, length, take, slice_get, true, IsTrue, IsOk, IfOk, IfErr, OnOk};
-ghost use Rattle.pair_frames.specs.Pairs.{holds_pair};
 
+use crate::batch::Batch;
 use crate::keys::Keys;
 use blob_pool::Pool;
 use cache_api::{CacheErr, NewPair, Put};
-use pair_reader::{KeyAt, Lengths, key_at};
+use pair_reader::Lengths;
 use pair_writer::{Staged, StagedFrame};
-use record_log::{LONG_RECORD, Log, PAIR, RECORD};
+use record_log::Log;
 use std::alloc::{AllocError, Global};
 use store_dev::StoreDevice;
 
@@ -18,25 +18,19 @@ pub struct Index {
     pub keys: Keys,
 }
 
-/// Whether a frame of that kind stands for a pair.
-fn holds_pair(kind: u8) -> bool
-    ensures { result ≡ holds_pair kind }
-{
-    kind == PAIR || kind == RECORD || kind == LONG_RECORD
-}
-
 impl Index {
     ghost use Rattle.rel_path.specs.Causes.{Counts};
     ghost use Rattle.cache_api.specs.Cache.{is_fault, IsFindErr};
     ghost use Rattle.cache_api.specs.Keys.{new_pairs};
-    ghost use Rattle.cache_api.specs.Pairs.{Pair, chosen};
+    ghost use Rattle.cache_api.specs.Pairs.{chosen};
     ghost use Rattle.record_log.specs.Kinds.{Entry};
     ghost use Rattle.record_log.specs.Log.{device_of, is_whole, count_of, frames_in as log_frames};
     ghost use Rattle.blob_pool.specs.Known.{Knows, OnlyReadsLog};
     ghost use Rattle.pair_frames.specs.Pairs.{pairs_in};
     ghost use Rattle.pair_reader.specs.Answers.{Ascend};
     ghost use Rattle.pair_writer.specs.Staged.{entries};
-    ghost use Rattle.pair_index.specs.Index.{Indexes, IndexesTheSame, IsIndexOf, IsKeyOf, FramesBelow, frames_in, frame_room, lengths_in};
+    ghost use Rattle.pair_index.specs.Index.{Indexes, IndexesTheSame, IsIndexOf, FramesBelow, frames_in, frame_room, lengths_in};
+    ghost use Rattle.pair_index.specs.Batch.{IsBatchOf, NumbersBelow};
     ghost use Rattle.pair_index.specs.Keys.{key_room};
     ghost use Rattle.pair_frames.specs.Reading.{record_places};
     ghost use Rattle.pair_writer.specs.Held.{staged_entries};
@@ -108,27 +102,55 @@ impl Index {
         ensures cause { Counts is_fault (S.store_faults (device_of log.old))
             (S.store_faults (device_of log.new)) result }
     {
-        for number in first..log.frames() {
-            if holds_pair(log.kind_at(number)) {
-                let key = key_at(alloc, pool, log, number, &self.keys.lengths)?;
-                self.push(number, key)?;
-            }
+        let mut next = first;
+        while next < log.frames() {
+            next = self.read_some(alloc, pool, log, next)?;
         }
         Ok(())
     }
 
-    /// Takes in the next pair: the number of its frame, and its key.
-    fn push(&mut self, number: u64, key: KeyAt) -> Result<(), AllocError>
-        ensures index { OnOk result ((fs : List Entry) (e : Entry) (pair : Pair)
-            → IsIndexOf self.old fs → holds_pair e.kind ≡ true → number ≡ length fs
-            → pairs_in (fs ++ e ∷ []) ≡ pairs_in fs ++ pair ∷ []
-            → IsKeyOf (lengths_in self.old) pair key → IsIndexOf self.new (fs ++ e ∷ [])) }
-        ensures below { OnOk result ((n : ℕ) → FramesBelow self.old n → number < n
-            → FramesBelow self.new n) }
+    /// Goes on from the index of the first so many frames to that of the frames up to another one, whose number it tells.
+    fn read_some<S: StoreDevice>(
+        &mut self,
+        alloc: Global,
+        pool: &Pool,
+        log: &mut Log<S>,
+        first: u64,
+    ) -> Result<u64, CacheErr>
+        requires whole { IsTrue (is_whole log.old) }
+        requires pool { Knows pool.now log.old }
+        requires first { first < count_of log.old }
+        requires known { S.tells → IsIndexOf self.old (take first (log_frames log.old)) }
+        requires below { FramesBelow self.old first }
+        ensures index { S.tells → IfOk result (λ next.
+            IsIndexOf self.new (take next (log_frames log.old))) }
+        ensures below { IfOk result (FramesBelow self.new) }
+        ensures further { IfOk result (λ next. first < next) }
+        ensures inside { IfOk result (λ next. next ≤ count_of log.old) }
+        ensures lengths { OnOk result (lengths_in self.new ≡ lengths_in self.old) }
+        ensures log { OnlyReadsLog log.old log.new }
+        ensures answers { IfErr result IsFindErr }
+        ensures cause { Counts is_fault (S.store_faults (device_of log.old))
+            (S.store_faults (device_of log.new)) result }
+    {
+        let batch = Batch::read(alloc, pool, log, &self.keys.lengths, first)?;
+        self.push_batch(alloc, &batch)?;
+        Ok(batch.next)
+    }
+
+    /// Takes in the frames and the keys of a batch.
+    fn push_batch(&mut self, alloc: Global, batch: &Batch) -> Result<(), AllocError>
+        ensures index { OnOk result ((fs : List Entry) (first : ℕ)
+            → IsBatchOf (lengths_in self.old) fs first batch.now
+            → IsIndexOf self.old (take first fs) → IsIndexOf self.new (take batch.now.next fs)) }
+        ensures below { OnOk result (NumbersBelow batch.now → (n : ℕ) → n ≤ batch.now.next
+            → FramesBelow self.old n → FramesBelow self.new batch.now.next) }
         ensures lengths { OnOk result (lengths_in self.new ≡ lengths_in self.old) }
     {
-        self.keys.push(key.len, key.print)?;
-        self.frames.push(number)?;
+        let prints = batch.prints(alloc)?;
+        self.keys
+            .push_all(batch.keys.as_slice(), prints.as_slice())?;
+        self.frames.extend_from_slice(batch.numbers.as_slice())?;
         Ok(())
     }
 

@@ -1,10 +1,11 @@
 // The keys of pairs.
-ghost use Rattle.std.specs.Prelude.{◌≡◌, ◌≤◌, ◌<◌, ◌+◌, ◌++◌, ◌∷◌, [], ℕ, List, length, get_or, true, IsOk, OnOk};
+ghost use Rattle.std.specs.Prelude.{◌≡◌, ◌≤◌, ◌<◌, ◌+◌, ◌++◌, ◌∷◌, [], ℕ, List, length, map, get_or, true, IsOk, OnOk};
+ghost use Rattle.sha2.specs.Sha256.{sha256};
 ghost use Rattle.pair_reader.specs.Answers.{Ascend, Rise, is_one_of, print_where};
 ghost use Rattle.pair_index.specs.Lengths.{listed};
 
 use cache_api::{Key, NewPair, Put};
-use pair_reader::Lengths;
+use pair_reader::{KeyText, Lengths};
 use print_index::PrintIndex;
 use std::alloc::{AllocError, Global};
 
@@ -25,6 +26,7 @@ impl Keys {
     ghost use Rattle.cache_api.specs.Pairs.{Pair, chosen};
     ghost use Rattle.cache_api.specs.Keys.{text_of, new_pairs};
     ghost use Rattle.pair_index.specs.Keys.{lens_in, numbers_in, prints_in, number_where, listed_print, hash_room};
+    ghost use Rattle.pair_index.specs.Batch.{key_of, texts_of};
     ghost use Rattle.pair_index.specs.Keys.{len_of, IsKeysOf, key_room, is_sought_by_print, place_count, number_at, may_have, IsBehind, IsLastWithLen};
 
     /// Of no pairs.
@@ -75,6 +77,31 @@ impl Keys {
         self.lens.reserve(1)?;
         self.push_print(print)?;
         self.lens.push_reserved(len);
+        Ok(())
+    }
+
+    /// Takes in the keys of the next pairs: their lengths, and the fingerprints of those whose texts were read.
+    pub(crate) fn push_all(
+        &mut self,
+        keys: &[KeyText],
+        prints: &[[u8; 32]],
+    ) -> Result<(), AllocError>
+        requires { prints.now ≡ map sha256 (texts_of keys.now) }
+        ensures keys { OnOk result ((known pairs : List Pair) → IsKeysOf self.old known
+            → keys.now ≡ map (key_of self.old.lengths) pairs
+            → IsKeysOf self.new (known ++ pairs)) }
+        ensures lengths { OnOk result (self.new.lengths ≡ self.old.lengths) }
+    {
+        let mut at = 0;
+        for key in keys {
+            match &key.text {
+                Some(_) => {
+                    self.push(key.len, Some(prints[at]))?;
+                    at += 1;
+                }
+                None => self.push(key.len, None)?,
+            }
+        }
         Ok(())
     }
 

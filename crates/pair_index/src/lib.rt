@@ -16,14 +16,16 @@
 //! Where keys are sought by fingerprint, `last` and `before` answer places among the fingerprints
 //! that are kept, and `number` tells the pair at a place.
 //!
-//! Reading a log answers `Failed`, where the device failed, or `OutOfMemory`. `reserve` fails for
-//! want of memory alone, and learning does not fail where it made room.
+//! The keys of a log are read in batches, and those of a batch are hashed side by side. Reading a
+//! log answers `Failed`, where the device failed, or `OutOfMemory`. `reserve` fails for want of
+//! memory alone, and learning does not fail where it made room.
 //!
-//! `specs/` says what is kept of keys (`Keys`) and of frames (`Index`), which lengths are
-//! foreseen (`Lengths`), which pairs are seen (`Seen`), and how often a look-up may read a log
-//! (`Costs`).
+//! `specs/` says what is kept of keys (`Keys`) and of frames (`Index`), what a batch has (`Batch`),
+//! which lengths are foreseen (`Lengths`), which pairs are seen (`Seen`), and how often a look-up
+//! may read a log (`Costs`).
 #![tactic(auto)]
 
+mod batch;
 mod index;
 mod keys;
 mod seen;
