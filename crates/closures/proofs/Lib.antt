@@ -1,5 +1,4 @@
 mod Descent
 mod Lookup
-mod Named
 mod Ranks
 mod Sets

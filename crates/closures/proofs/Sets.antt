@@ -1,5 +1,5 @@
 -- Sets of places.
-use Rattle.std.proofs.Common.{◌≡◌, ◌<◌, ◌+◌, ◌==◌, ◌||◌, ℕ, Bool, true, cond, List, length, take, get_or, Bor, sym, ap, ◌∙◌, arith, inl, inr}
+use Rattle.std.proofs.Common.{◌≡◌, ◌<◌, ◌+◌, ◌==◌, ◌||◌, ℕ, Bool, true, false, cond, List, length, take, get_or, Bor, refl, sym, ap, ◌∙◌, arith, inl, inr}
 use Rattle.std.specs.Prelude.{Option, Some, None, MatchOption}
 use Rattle.std.specs.Option.{option_copied}
 use Rattle.std.specs.BTreeSet.{BTreeSet, contains, IsKeyRangeOf}
@@ -13,7 +13,6 @@ use Rattle.std.proofs.lemmas.Cmp.{ranked}
 use Rattle.std.proofs.lemmas.List.Folds.{list_any_more}
 use Rattle.std.proofs.lemmas.Map.Keys.{ge_from_not_lt}
 use Rattle.closures.specs.Places.{has, HasNoneBelow, IsLastBelow}
-use Rattle.closures.proofs.Named.{turn}
 
 is_same : (k j : ℕ) → is_eq (nat_cmp k j) ≡ (k == j)
 is_same k j =
@@ -24,6 +23,12 @@ is_same k j =
         | inr l ↦ ap is_eq (sym (nat_cmp_is k j Greater l)) ∙ sym (ne_eqb k j (λ e. omega (arith, l, e)))
       ]
     ]
+
+turn : (k a b : Bool) → cond k true (a || b) ≡ ((a || k) || b)
+turn true true b = refl
+turn true false b = refl
+turn false true b = refl
+turn false false b = refl
 
 -- the place that comes next is put in
 pub one_place_more : (places : List ℕ) (i j : ℕ) (old new base : Bool) → i < length places → new ≡ cond (is_eq (nat_cmp (get_or places i 0) j)) true old → old ≡ (has (take i places) j || base) → new ≡ (has (take (i + 1) places) j || base)

@@ -1,8 +1,7 @@
--- Sets of paths as tests.
-use Rattle.std.specs.Prelude.{Bool}
-use Rattle.std.specs.BTreeSet.{BTreeSet, contains}
-use Rattle.rel_path.specs.Paths.{Path, path_cmp}
+-- Marks on files, by their paths.
+use Rattle.std.specs.Prelude.{ℕ, Bool, List, map}
+use Rattle.rel_path.specs.Paths.{Path}
 
--- the set has the path
-unfoldable pub has_path : BTreeSet Path → Path → Bool
-has_path set path = contains path_cmp set path
+-- for each file whether its path passes
+abbrev pub marks_of : (Path → Bool) → List (Path × List ℕ) → List Bool
+marks_of passes files = map (λ f. passes f.0) files

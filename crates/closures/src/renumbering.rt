@@ -6,8 +6,7 @@ ghost use Rattle.run_laws.specs.Picks.{rank};
 ghost use Rattle.run_laws.specs.Closures.{renumbered, sub_parts};
 ghost use Rattle.closures.specs.Places.{has, Ascend};
 
-use globs::OutSet;
-use listing::{ListErr, Listing, Part, Parts};
+use listing::{ListErr, Listing, Part, PartIn};
 use rel_path::Places;
 use std::alloc::Global;
 
@@ -31,44 +30,28 @@ fn numbers_of(alloc: Global, kept: &[usize], deps: &[u32]) -> Result<Places, Lis
     Ok(numbers)
 }
 
-fn outs_of(part: &Part) -> Result<OutSet, ListErr>
-    ensures value { IfOk result (λ outs. outs ≡ part.now.outs) }
-    ensures memory { OnlyMemory result }
-{
-    match part.outs.copy() {
-        Ok(outs) => Ok(outs),
-        Err(_) => Err(ListErr::OutOfMemory),
-    }
-}
-
-fn renumbered(alloc: Global, kept: &[usize], part: &Part) -> Result<Part, ListErr>
+fn renumbered<'a>(alloc: Global, kept: &[usize], part: &'a Part) -> Result<PartIn<'a>, ListErr>
     requires { Ascend kept.now }
-    ensures value { IfOk result (λ copy. copy ≡ renumbered (has kept.now) part.now) }
+    ensures value { IfOk result (λ view. view ≡ renumbered (has kept.now) part.now) }
     ensures memory { OnlyMemory result }
 {
-    Ok(Part {
-        package: part.package.copy()?,
-        folder: part.folder.copy()?,
-        task: part.task.copy()?,
-        scripts: part.scripts.copy()?,
-        args: part.args.copy()?,
-        outs: outs_of(part)?,
-        env: part.env.copy()?,
-        inputs: part.inputs.copy()?,
-        externals: part.externals.copy()?,
-        deps: numbers_of(alloc, kept, part.deps.as_slice())?,
-    })
+    let numbers = numbers_of(alloc, kept, part.deps.as_slice())?;
+    Ok(PartIn::new(part, numbers))
 }
 
 /// The parts at the places that are kept, in the same order.
-pub fn parts_of(alloc: Global, listing: &Listing, kept: &[usize]) -> Result<Parts, ListErr>
+pub fn parts_of<'a>(
+    alloc: Global,
+    listing: &'a Listing,
+    kept: &[usize],
+) -> Result<Vec<PartIn<'a>>, ListErr>
     requires ascend { Ascend kept.now }
     requires inner { AllByRecursion (λ place. place < length listing.now.parts) kept.now }
-    ensures parts { IfOk result (λ parts. parts ≡ sub_parts listing.now (has kept.now)) }
+    ensures parts { IfOk result (λ parts. parts.items ≡ sub_parts listing.now (has kept.now)) }
     ensures memory { OnlyMemory result }
 {
     let all = listing.parts.as_slice();
-    let mut parts = Parts::new(alloc);
+    let mut parts = Vec::with_capacity(alloc, kept.len())?;
     for place in kept {
         parts.push(renumbered(alloc, kept, &all[*place])?)?;
     }

@@ -1,5 +1,5 @@
 // The key text of a listing.
-ghost use Rattle.std.specs.Prelude.{◌≡◌, ℕ, length, codes, IfOk, OnOk};
+ghost use Rattle.std.specs.Prelude.{◌≡◌, ◌++◌, ℕ, length, codes, IfOk, OnOk};
 ghost use Rattle.codes.specs.Codes.{Separates, list, IsList, AreBoth, IsShort};
 ghost use Rattle.listing.specs.KeyText as spec;
 ghost use Rattle.listing.specs.Memory.{OnlyMemory, capped};
@@ -22,29 +22,80 @@ pub fn key_text_law()
 
 /// The key text of a listing. A text or list of 2^32 or more bytes or members takes more memory than there is; so where
 /// there is a key text, the law of key texts speaks of the listing.
-///
-/// The text is written into one buffer, whose room is taken first.
 #[tactic(auto, unfolding(crate::specs::KeyText::key_text))]
 pub fn key_text(alloc: Global, listing: &Listing) -> Result<Bytes, ListErr>
     ensures value { IfOk result (λ text. text ≡ spec.key_text listing.now) }
     ensures told { OnOk result (spec.Fits listing.now) }
     ensures memory { OnlyMemory result }
 {
-    let mut text = Vec::with_capacity(alloc, key_text_len(listing))?;
+    key_text_of(alloc, listing.files.as_slice(), listing.parts.as_slice())
+}
+
+/// The key text of these files and parts, written into one buffer whose room is taken first.
+pub(crate) fn key_text_of<F: Coded, P: Coded>(
+    alloc: Global,
+    files: &[F],
+    parts: &[P],
+) -> Result<Bytes, ListErr>
+    ensures value { IfOk result (λ text.
+        text ≡ codes "TURBKEY1" ++ (list F.code files.now ++ list P.code parts.now)) }
+    ensures files { OnOk result (IsList F.fits files.now) }
+    ensures parts { OnOk result (IsList P.fits parts.now) }
+    ensures memory { OnlyMemory result }
+{
+    let mut text = Vec::with_capacity(alloc, key_text_len(files, parts))?;
     text.extend_from_slice(b"TURBKEY1")?;
-    put_list(&mut text, listing.files.as_slice())?;
-    put_list(&mut text, listing.parts.as_slice())?;
+    put_list(&mut text, files)?;
+    put_list(&mut text, parts)?;
     Ok(Bytes::from_vec(text))
 }
 
 /// How many bytes the key text has, or the greatest `usize` where these are more.
-#[tactic(auto, unfolding(crate::specs::KeyText::key_text))]
-fn key_text_len(listing: &Listing) -> usize
-    ensures { result ≡ capped (length (spec.key_text listing.now)) }
+pub(crate) fn key_text_len<F: Coded, P: Coded>(files: &[F], parts: &[P]) -> usize
+    ensures { result
+        ≡ capped (length (codes "TURBKEY1" ++ (list F.code files.now ++ list P.code parts.now))) }
 {
-    let files = list_len(listing.files.as_slice());
-    let parts = list_len(listing.parts.as_slice());
-    files.saturating_add(parts).saturating_add(8)
+    list_len(files)
+        .saturating_add(list_len(parts))
+        .saturating_add(8)
+}
+
+/// How many bytes the part takes with these dependencies in the place of its own.
+#[tactic(auto, unfolding(crate::specs::KeyText::part_code))]
+pub(crate) fn part_len(part: &Part, deps: &[u32]) -> usize
+    ensures { result ≡ capped (length (spec.part_code (record part.now { deps = deps.now }))) }
+{
+    let mut len = part.package.code_len();
+    len = len.saturating_add(part.folder.code_len());
+    len = len.saturating_add(part.task.code_len());
+    len = len.saturating_add(list_len(part.scripts.as_slice()));
+    len = len.saturating_add(list_len(part.args.as_slice()));
+    len = len.saturating_add(part.outs.code_len());
+    len = len.saturating_add(list_len(part.env.as_slice()));
+    len = len.saturating_add(list_len(part.inputs.as_slice()));
+    len = len.saturating_add(list_len(part.externals.as_slice()));
+    len.saturating_add(list_len(deps))
+}
+
+/// Adds the bytes of the part with these dependencies in the place of its own.
+#[tactic(auto, unfolding(crate::specs::KeyText::part_code))]
+pub(crate) fn put_part(to: &mut Vec<u8>, part: &Part, deps: &[u32]) -> Result<(), ListErr>
+    ensures written { OnOk result (to.new.items
+        ≡ to.old.items ++ spec.part_code (record part.now { deps = deps.now })) }
+    ensures told { OnOk result (spec.PartFits (record part.now { deps = deps.now })) }
+    ensures memory { OnlyMemory result }
+{
+    part.package.put(to)?;
+    part.folder.put(to)?;
+    part.task.put(to)?;
+    put_list(to, part.scripts.as_slice())?;
+    put_list(to, part.args.as_slice())?;
+    part.outs.put(to)?;
+    put_list(to, part.env.as_slice())?;
+    put_list(to, part.inputs.as_slice())?;
+    put_list(to, part.externals.as_slice())?;
+    put_list(to, deps)?;
+    Ok(())
 }
 
 impl Coded for OutSet {
@@ -71,32 +122,11 @@ impl Coded for Part {
 
     ghost fits = { spec.PartFits };
 
-    #[tactic(auto, unfolding(crate::specs::KeyText::part_code))]
     fn code_len(&self) -> usize {
-        let mut len = self.package.code_len();
-        len = len.saturating_add(self.folder.code_len());
-        len = len.saturating_add(self.task.code_len());
-        len = len.saturating_add(list_len(self.scripts.as_slice()));
-        len = len.saturating_add(list_len(self.args.as_slice()));
-        len = len.saturating_add(self.outs.code_len());
-        len = len.saturating_add(list_len(self.env.as_slice()));
-        len = len.saturating_add(list_len(self.inputs.as_slice()));
-        len = len.saturating_add(list_len(self.externals.as_slice()));
-        len.saturating_add(list_len(self.deps.as_slice()))
+        part_len(self, self.deps.as_slice())
     }
 
-    #[tactic(auto, unfolding(crate::specs::KeyText::part_code))]
     fn put(&self, to: &mut Vec<u8>) -> Result<(), ListErr> {
-        self.package.put(to)?;
-        self.folder.put(to)?;
-        self.task.put(to)?;
-        put_list(to, self.scripts.as_slice())?;
-        put_list(to, self.args.as_slice())?;
-        self.outs.put(to)?;
-        put_list(to, self.env.as_slice())?;
-        put_list(to, self.inputs.as_slice())?;
-        put_list(to, self.externals.as_slice())?;
-        put_list(to, self.deps.as_slice())?;
-        Ok(())
+        put_part(to, self, self.deps.as_slice())
     }
 }

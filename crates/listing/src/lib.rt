@@ -16,6 +16,9 @@
 //! fingerprint is the SHA-256 of the key text (FIPS 180-4), of which [`short`] gives the first 16
 //! hexadecimal digits: `ba7816bf8f01cfea` for the bytes `abc`.
 //!
+//! An [`Excerpt`] is a listing whose files and parts lie in another one. Its key text is written
+//! straight from there.
+//!
 //! [`ListErr`]`::OutOfMemory` is the one error. It comes also where a text or list has 2^32 bytes
 //! or members or more.
 #![tactic(auto)]
@@ -23,10 +26,12 @@
 mod coded;
 mod digest;
 mod error;
+mod excerpt;
 mod key;
 mod part;
 
 pub use digest::{fingerprint, short};
 pub use error::ListErr;
+pub use excerpt::{Excerpt, FileIn, PartIn};
 pub use key::{key_text, key_text_law};
 pub use part::{Listing, Part, Parts};

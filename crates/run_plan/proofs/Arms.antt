@@ -108,6 +108,8 @@ module _ (laws : Laws) (plan : Plan) (o : Opening) (now : Now) (stands : Stands 
               (ap (λ st. record here { stages = st }) (stages-put now.states t state.Passed)) moved;
           will_is = same-will state.Passed (λ h. absurd (cc));
           puts = puts-push story.moves (Pass t) ∙ append-nil (puts_of story.moves) ∙ story.puts;
+          lasts = story.lasts;
+          within = story.within;
           reports = λ u. split (λ u b. ReportsAs (report_of plan s (notes_in now.reports u) u) (has_script (part_at plan.listing u) && is_done (cond b state.Passed (now.states u))) (now.reports u)) t
               (silent (report_of plan s (notes_in now.reports t) t) _ (now.reports t) (shown state.Passed) none-here) (λ u d. story.reports u) u;
           noted = noted-as state.Passed now.room (omega arith) refl;
@@ -138,6 +140,8 @@ module _ (laws : Laws) (plan : Plan) (o : Opening) (now : Now) (stands : Stands 
           leads = leads-to s story.moves here (progress_of (put now.states t state.Missed) now.files now.pairs story.will) (ap (λ st. record here { stages = st }) same) story.leads;
           will_is = same-will state.Missed (λ h. absurd (cc));
           puts = story.puts;
+          lasts = story.lasts;
+          within = story.within;
           reports = λ u. split (λ u b. ReportsAs (report_of plan s (notes_in now.reports u) u) (has_script (part_at plan.listing u) && is_done (cond b state.Missed (now.states u))) (now.reports u)) t
               (silent (report_of plan s (notes_in now.reports t) t) _ (now.reports t) (and_right (has_script (part_at plan.listing t)) false refl) none-here) (λ u d. story.reports u) u;
           noted = noted-as state.Missed room le refl;
@@ -184,6 +188,8 @@ module _ (laws : Laws) (plan : Plan) (o : Opening) (now : Now) (stands : Stands 
               (ap (λ st. record { stages = st; files = logged (part_at plan.listing t) artifact.0 (restored (part_at plan.listing t).outs artifact.1 now.files); pairs = now.pairs; will = story.will }) (stages-put now.states t state.Passed)) moved;
           will_is = same-will state.Passed (λ h. absurd (cc));
           puts = puts-push story.moves (Replay t artifact) ∙ append-nil (puts_of story.moves) ∙ story.puts ∙ ap (λ ns. filter (stores plan s ns) (ends_of story.mine)) (sym notes);
+          lasts = story.lasts;
+          within = story.within;
           reports = λ u. split (λ u b. ReportsAs (report_of plan s (note_in (cond b (Some hit_report) (now.reports u))) u) (has_script (part_at plan.listing u) && is_done (cond b state.Passed (now.states u))) (cond b (Some hit_report) (now.reports u))) t
               (subst (λ b. ReportsAs (report_of plan s Stored t) (b && true) (Some hit_report)) (sym script) (ap (λ r. Some r) (sym back))) (λ u d. story.reports u) u;
           noted = λ u. subst (λ n. NotedAs plan s room u (has_ended (put now.states t state.Passed u)) (n u)) (sym notes) (noted-as state.Passed room le refl u);
@@ -230,6 +236,8 @@ module _ (laws : Laws) (plan : Plan) (o : Opening) (now : Now) (stands : Stands 
               (λ h. told_will) (λ u d h. other_will u h ∙ story.will_is u h) u e;
           puts = puts-push story.moves (Begin t) ∙ append-nil (puts_of story.moves) ∙ story.puts
               ∙ ap (filter (stores plan s (notes_in now.reports))) (sym (ends-push story.mine (Start t) ∙ append-nil (ends_of story.mine)));
+          lasts = story.lasts;
+          within = story.within;
           reports = λ u. split (λ u b. ReportsAs (report_of plan s (notes_in now.reports u) u) (has_script (part_at plan.listing u) && is_done (cond b state.Running (now.states u))) (now.reports u)) t
               (silent (report_of plan s (notes_in now.reports t) t) _ (now.reports t) (and_right (has_script (part_at plan.listing t)) false refl) none_here) (λ u d. story.reports u) u;
           noted = λ u. split (λ u b. NotedAs plan s now.room u (has_ended (cond b state.Running (now.states u))) (notes_in now.reports u)) t unnoted_here (λ u d. story.noted u) u;

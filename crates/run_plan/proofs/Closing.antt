@@ -178,6 +178,8 @@ module _ (laws : Laws) (plan : Plan) (o : Opening) (now : Now) (stands : Stands 
     leads = story.leads;
     will_is = story.will_is;
     puts = story.puts;
+    lasts = story.lasts;
+    within = story.within;
     reports = story.reports;
     noted = story.noted;
     logs = λ u h le. same u (λ e. absurd (omega (arith, le, e))) ∙ story.logs u h (omega (arith, le));
@@ -194,8 +196,29 @@ module _ (laws : Laws) (plan : Plan) (o : Opening) (now : Now) (stands : Stands 
     leads = story.leads;
     will_is = story.will_is;
     puts = story.puts;
+    lasts = story.lasts;
+    within = story.within;
     reports = story.reports;
     noted = λ t. noted-less plan s now.room room t (has_ended (now.states t)) (notes_in now.reports t) le (story.noted t);
+    logs = story.logs;
+  }
+
+  pub settles : (lasting : ℕ) → now.lasting ≤ lasting → lasting ≤ length now.pairs
+      → Story plan o (record now { lasting = lasting })
+  settles lasting more within = record {
+    book = story.book;
+    mine = story.mine;
+    steps = story.steps;
+    at = story.at;
+    moves = story.moves;
+    will = story.will;
+    leads = story.leads;
+    will_is = story.will_is;
+    puts = story.puts;
+    lasts = omega (arith, story.lasts, more);
+    within = within;
+    reports = story.reports;
+    noted = story.noted;
     logs = story.logs;
   }
 

@@ -1,5 +1,5 @@
 -- What an end does to a story.
-use Rattle.std.proofs.Common.{◌≡◌, ◌≢◌, ℕ, zero, suc, ◌<◌, ◌≤◌, ◌==◌, ◌&&◌, not, Bool, true, false, cond, List, [], ◌∷◌, ◌++◌, length, refl, sym, ap, ◌∙◌, subst, inl, inr, Option, Some, None, slice_get, append_assoc}
+use Rattle.std.proofs.Common.{◌≡◌, ◌≢◌, ℕ, zero, suc, ◌<◌, ◌≤◌, ◌==◌, ◌&&◌, not, Bool, true, false, cond, List, [], ◌∷◌, ◌++◌, length, refl, sym, ap, ◌∙◌, subst, arith, inl, inr, Option, Some, None, slice_get, append_assoc}
 use Rattle.std.specs.Prelude.{filter, map, MatchBool, is_some}
 use Rattle.std.specs.List.{list_all, AllByRecursion}
 use Rattle.std.proofs.lemmas.Bool.{cases_Bool, cases_eq, eq-eqb, ne_eqb, eqb-true, false≢true, true≢false, and_parts, and_right, or_cases, false_from_ne_true, not-false}
@@ -254,7 +254,7 @@ module _ (laws : Laws) (plan : Plan) (o : Opening) (now : Now) (stands : Stands 
   pair-is taken is = let log = ends.log in let files = taken-is taken is in λ i. (key_of plan.listing t, artifact_text (log i, files i))
 
   module _ (calm : IsCalm (rules_of plan) now.states) (is : next (rules_of plan) now.states ≡ turn.WaitFirst)
-      (note : Note) (pairs : List Pair) (room : ℕ) (report : Report) (e : EndIs plan now end sound note pairs room report) where
+      (note : Note) (pairs : List Pair) (lasting room : ℕ) (report : Report) (e : EndIs plan now end sound note pairs lasting room report) where
     abbrev Kept : Bool → Type 0
     Kept b = MatchBool b (IsNote plan s room t note) (note ≡ Stored) × (pairs ≡ put_if (b && is_stored note) now.pairs (due_pair plan.listing t eff))
 
@@ -317,7 +317,7 @@ module _ (laws : Laws) (plan : Plan) (o : Opening) (now : Now) (stands : Stands 
     note-is : report.note ≡ note
     note-is = ap (λ r. r.note) e.report_is
 
-    pub arm-end : (will : ℕ → Effect) → ((u : ℕ) → u ≢ end.place → now.states u ≡ state.Running → will u ≡ now.will u) → Story plan o (after_this plan now end will pairs room report)
+    pub arm-end : (will : ℕ → Effect) → ((u : ℕ) → u ≢ end.place → now.states u ≡ state.Running → will u ≡ now.will u) → Story plan o (after_this plan now end will pairs lasting room report)
     arm-end will other_will =
         let low = lower laws plan o now stands in
         let cut = end-split plan now.states low calm t end.status ends.running in
@@ -345,6 +345,8 @@ module _ (laws : Laws) (plan : Plan) (o : Opening) (now : Now) (stands : Stands 
               ∙ ap (λ ps. filter (stores plan s (notes_in (put_at now.reports t (Some report)))) (ends_of story.mine) ++ ps) (puts-one t stores_it ∙ ap (λ b. cond b (t ∷ []) []) (sym stored_here))
               ∙ sym (filter-append (stores plan s (notes_in (put_at now.reports t (Some report)))) (ends_of story.mine) (t ∷ []))
               ∙ ap (filter (stores plan s (notes_in (put_at now.reports t (Some report))))) (sym (ends-push story.mine (End t end.status)));
+          lasts = omega (arith, story.lasts, e.lasts);
+          within = e.within;
           reports = cut (λ u b x. ReportsAs (report_of plan s (note_in (cond b (Some report) (now.reports u))) u) (has_script (part_at plan.listing u) && is_done x) (cond b (Some report) (now.reports u)))
               (subst (λ b. ReportsAs (report_of plan s report.note t) (b && true) (Some report)) (sym script) (ap (λ r. Some r) report-is))
               (λ u d. story.reports u)

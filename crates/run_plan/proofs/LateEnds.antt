@@ -92,10 +92,6 @@ filter-gives P Q p gives (x ∷ xs) all = elim (cases_Bool (p x)) [
   | inr h ↦ rw h (filter-gives P Q p gives xs all.1)
 ]
 
-first-all : (P : ℕ → Type 0) (xs ys : List ℕ) → AllByRecursion P (xs ++ ys) → AllByRecursion P xs
-first-all P [] ys all = tt
-first-all P (x ∷ xs) ys all = (all.0, first-all P xs ys all.1)
-
 picked-good : (keep : ℕ → Bool) (outs : List Outcome) → list_all is_good (pick keep outs) ≡ true
     → (j : ℕ) (d : Outcome) → keep j ≡ true → slice_get outs j ≡ Some d → is_good d ≡ true
 picked-good keep [] all j d kept is = absurd (cc)
@@ -152,18 +148,15 @@ module _ (grounds : HaltGrounds) (plan : Plan) (o : Opening) (now : Now)
         is = ap (due_pair plan.listing t) effect;
       }
 
-  pub late-due : (notes : ℕ → Note) (late : List Step) (first rest : List ℕ)
-      → AreLate now.states late
-      → filter (stores plan s notes) (ends_of late) ≡ first ++ rest
-      → AllByRecursion (λ u. IsDue o.book (clean_pair s u)) first
-  late-due notes late first rest are is =
-      first-all (λ u. IsDue o.book (clean_pair s u)) first rest
-      (subst (AllByRecursion (λ u. IsDue o.book (clean_pair s u))) is
-      (filter-gives (λ u. now.states u ≡ state.Running) (λ u. IsDue o.book (clean_pair s u))
+  pub late-due : (notes : ℕ → Note) (late : List Step) → AreLate now.states late
+      → AllByRecursion (λ u. IsDue o.book (clean_pair s u))
+      (filter (stores plan s notes) (ends_of late))
+  late-due notes late are =
+      filter-gives (λ u. now.states u ≡ state.Running) (λ u. IsDue o.book (clean_pair s u))
       (stores plan s notes)
       (λ u runs stored. is-due u runs
       (and_parts (may_store plan s u) (is_stored (notes u)) stored).0)
-      (ends_of late) (late-ran now.states late are)))
+      (ends_of late) (late-ran now.states late are)
 
   pub good-more : (pairs : List Pair) (us : List ℕ) → IsGood o.book pairs
       → AllByRecursion (λ u. IsDue o.book (clean_pair s u)) us

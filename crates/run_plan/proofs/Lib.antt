@@ -8,6 +8,7 @@ pub mod Taking
 pub mod Ending
 pub mod Closing
 mod LateEnds
+mod Firsts
 mod Stopping
 mod Whole
 pub mod ReportFacts

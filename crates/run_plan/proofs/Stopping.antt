@@ -1,12 +1,13 @@
 -- What is kept of a run that stops, and which pairs it may leave at each moment.
-use Rattle.std.proofs.Common.{◌≡◌, ◌≢◌, ℕ, ◌≤◌, ◌&&◌, Bool, true, false, List, [], ◌∷◌, ◌++◌, refl, sym, ap, ◌∙◌, subst, arith, inl, inr, append_assoc, append-nil}
+use Rattle.std.proofs.Common.{◌≡◌, ◌≢◌, ℕ, ◌+◌, ◌≤◌, ◌&&◌, Bool, true, false, List, [], ◌∷◌, ◌++◌, length, take, drop, refl, sym, ap, ◌∙◌, subst, arith, inl, inr, append_assoc, append-nil}
 use Rattle.std.specs.Prelude.{filter, map}
 use Rattle.std.proofs.lemmas.Bool.{false≢true, true≢false, and_right, and_from}
-use Rattle.std.proofs.lemmas.List.{map-append}
+use Rattle.std.proofs.lemmas.List.{length-append, map-append, take-append-drop, take-map}
 use Rattle.std.proofs.lemmas.List.Elements.{filter-append}
 use Rattle.rel_path.specs.Files.{FileMap}
 use Rattle.globs.specs.Outputs.{takes}
-use Rattle.cache_api.specs.Pairs.{Pair}
+use Rattle.cache_api.specs.Pairs.{Pair, AreFirst}
+use Rattle.cache_api.proofs.Firsts.{first_more}
 use Rattle.page.specs.declared.blocks.Note.{Note}
 use Rattle.page.specs.declared.blocks.Note.TheVariants.{Stored}
 use Rattle.spawn_dev.specs.declared.command.Ended.{Ended}
@@ -27,11 +28,11 @@ use Rattle.run_plan.specs.declared.plan.Plan.{Plan}
 use Rattle.run_plan.specs.Answers.{StopsAt, IsSafe, OnlyUndone}
 use Rattle.run_plan.specs.Halts.{Halts, HaltsWith, IsPut, MayBePut, HaltLaw}
 use Rattle.run_plan.specs.Openings.{Opening, setting_of}
-use Rattle.run_plan.specs.Results.{effect_at, step_of, may_store, is_stored, NotedAs, stores, ends_of, told_ends}
+use Rattle.run_plan.specs.Results.{effect_at, step_of, may_store, is_stored, NotedAs, stores, ends_of, told_ends, due_pairs}
 use Rattle.run_plan.specs.Stories.{Now, Story, stage_of, has_ended, note_in, notes_in}
 use Rattle.run_plan.specs.StoryLaws.{Stands, EndsNow}
+use Rattle.run_plan.proofs.Firsts.{first-again, first-behind, first-split, good-first, ends-more, due-more}
 use Rattle.run_plan.proofs.Grounds.{HaltGrounds}
-use Rattle.run_plan.proofs.Steps.{ends-push}
 use Rattle.run_plan.proofs.Standing.{runs, agrees, ends-as, told-status, noted-less, none-now, running-effect}
 use Rattle.run_plan.proofs.Ending.{same-effect, may-is, pair-is}
 use Rattle.run_plan.proofs.Closing.{finished-done}
@@ -58,11 +59,12 @@ only-undone : (plan : Plan) (now : Now) (one two three : FileMap)
 only-undone plan now one two three first second path each = second path each ∙ first path each
 
 -- the files of a halt may change, as long as those of tasks that were done stay
-halts-unsaid : (plan : Plan) (o : Opening) (now : Now) (files later : FileMap) (pairs : List Pair)
-    (room : ℕ) (steps : List Told) (late : List Step)
-    → HaltsWith plan o now files pairs room steps late → OnlyUndone plan now.states files later
-    → HaltsWith plan o now later pairs room steps late
-halts-unsaid plan o now files later pairs room steps late with_late undone =
+halts-unsaid : (plan : Plan) (o : Opening) (now : Now) (least : ℕ) (files later : FileMap)
+    (pairs : List Pair) (room : ℕ) (steps : List Told) (late : List Step)
+    → HaltsWith plan o now least files pairs room steps late
+    → OnlyUndone plan now.states files later
+    → HaltsWith plan o now least later pairs room steps late
+halts-unsaid plan o now least files later pairs room steps late with_late undone =
     let halts = with_late.halts in
     record {
       halts = record {
@@ -72,10 +74,32 @@ halts-unsaid plan o now files later pairs room steps late with_late undone =
         ends = halts.ends;
         undone = only-undone plan now now.files files later halts.undone undone;
         less = halts.less;
-        put = halts.put;
-        unput = halts.unput;
-        due = halts.due;
+        least_is = halts.least_is;
+        within = halts.within;
         pairs_are = halts.pairs_are;
+      };
+      late_is = with_late.late_is;
+    }
+
+-- and so may its pairs, as long as the first of them stay
+halts-fewer : (plan : Plan) (o : Opening) (now : Now) (least fewest : ℕ) (files : FileMap)
+    (pairs later : List Pair) (room : ℕ) (steps : List Told) (late : List Step)
+    → HaltsWith plan o now least files pairs room steps late → now.lasting ≤ fewest
+    → fewest ≤ least → AreFirst fewest pairs later
+    → HaltsWith plan o now fewest files later room steps late
+halts-fewer plan o now least fewest files pairs later room steps late with_late lasts fewer first =
+    let halts = with_late.halts in
+    record {
+      halts = record {
+        late = halts.late;
+        late_are = halts.late_are;
+        steps_are = halts.steps_are;
+        ends = halts.ends;
+        undone = halts.undone;
+        less = halts.less;
+        least_is = lasts;
+        within = omega (arith, fewer, halts.within);
+        pairs_are = first-again least fewest _ pairs later fewer halts.pairs_are first;
       };
       late_is = with_late.late_is;
     }
@@ -150,9 +174,11 @@ module _ (grounds : HaltGrounds) (plan : Plan) (o : Opening) (now : Now)
 
   -- ---- a turn that failed
 
-  halts-before : (files : FileMap) (room : ℕ) → OnlyUndone plan now.states now.files files
-      → room ≤ now.room → HaltsWith plan o now files now.pairs room now.steps []
-  halts-before files room undone le = record {
+  halts-before : (least : ℕ) (files : FileMap) (pairs : List Pair) (room : ℕ)
+      → OnlyUndone plan now.states now.files files → now.lasting ≤ least
+      → least ≤ length now.pairs → AreFirst least now.pairs pairs → room ≤ now.room
+      → HaltsWith plan o now least files pairs room now.steps []
+  halts-before least files pairs room undone lasts within first le = record {
     halts = record {
       late = [];
       late_are = tt;
@@ -160,10 +186,9 @@ module _ (grounds : HaltGrounds) (plan : Plan) (o : Opening) (now : Now)
       ends = λ t x h. absurd (false≢true h);
       undone = undone;
       less = le;
-      put = [];
-      unput = [];
-      due = refl;
-      pairs_are = sym (append-nil now.pairs);
+      least_is = lasts;
+      within = within;
+      pairs_are = subst (λ ps. AreFirst least ps pairs) (sym (append-nil now.pairs)) first;
     };
     late_is = refl;
   }
@@ -193,55 +218,53 @@ module _ (grounds : HaltGrounds) (plan : Plan) (o : Opening) (now : Now)
         ∙ ap (due_pair plan.listing t)
         (sym (same-effect grounds.laws plan o now stands end sound ends)))
 
-    pub halts-at : (files : FileMap) (pairs : List Pair) (room : ℕ)
-        → OnlyUndone plan now.states now.files files → MayBePut plan now end sound pairs
-        → room ≤ now.room
-        → HaltsWith plan o now files pairs room (now.steps ++ told.End end ∷ [])
-        (End t end.status ∷ [])
-    halts-at files pairs room undone may le = by may
-      where
-        with_put : (put unput : List ℕ) → filter (stores plan s notes) (t ∷ []) ≡ put ++ unput
-            → pairs ≡ now.pairs ++ map (clean_pair s) put
-            → HaltsWith plan o now files pairs room (now.steps ++ told.End end ∷ [])
-            (End t end.status ∷ [])
-        with_put put unput due pairs_are = record {
-          halts = record {
-            late = End t end.status ∷ [];
-            late_are = (ends.running, tt);
-            steps_are = ap (λ x. now.steps ++ x ∷ []) (told-end end ends.running ends.log);
-            ends = ends-well end ends.running ends.status;
-            undone = undone;
-            less = le;
-            put = put;
-            unput = unput;
-            due = due;
-            pairs_are = pairs_are;
-          };
-          late_is = refl;
-        }
+    -- what is first of the pairs that may have been put is first of those that this end adds
+    first-due : (least : ℕ) (added pairs : List Pair) → least ≤ length now.pairs
+        → MayBePut plan now end sound added → AreFirst least added pairs
+        → AreFirst least (now.pairs ++ due_pairs plan s notes (t ∷ [])) pairs
+    first-due least added pairs within (inl same) first =
+        first_more least now.pairs (due_pairs plan s notes (t ∷ [])) pairs within
+        (subst (λ ps. AreFirst least ps pairs) same first)
+    first-due least added pairs within (inr is) first =
+        rw (is-stored added is) (subst (λ ps. AreFirst least ps pairs) (is-clean added is) first)
 
-        by : MayBePut plan now end sound pairs
-            → HaltsWith plan o now files pairs room (now.steps ++ told.End end ∷ [])
-            (End t end.status ∷ [])
-        by (inl same) =
-            with_put [] (filter (stores plan s notes) (t ∷ [])) refl
-            (same ∙ sym (append-nil now.pairs))
-        by (inr is) = with_put (t ∷ []) [] (rw (is-stored pairs is) refl) (is-clean pairs is)
+    pub halts-at : (least : ℕ) (files : FileMap) (added pairs : List Pair) (room : ℕ)
+        → OnlyUndone plan now.states now.files files → MayBePut plan now end sound added
+        → now.lasting ≤ least → least ≤ length now.pairs → AreFirst least added pairs
+        → room ≤ now.room
+        → HaltsWith plan o now least files pairs room (now.steps ++ told.End end ∷ [])
+        (End t end.status ∷ [])
+    halts-at least files added pairs room undone may lasts within first le = record {
+      halts = record {
+        late = End t end.status ∷ [];
+        late_are = (ends.running, tt);
+        steps_are = ap (λ x. now.steps ++ x ∷ []) (told-end end ends.running ends.log);
+        ends = ends-well end ends.running ends.status;
+        undone = undone;
+        less = le;
+        least_is = lasts;
+        within = within;
+        pairs_are = first-due least added pairs within may first;
+      };
+      late_is = refl;
+    }
 
   -- ---- ends behind it
 
-  halts-behind : (files later : FileMap) (pairs : List Pair) (room : ℕ) (steps : List Told)
-      (late : List Step) (end : Ended) → HaltsWith plan o now files pairs room steps late
+  halts-behind : (least : ℕ) (files later : FileMap) (pairs : List Pair) (room : ℕ)
+      (steps : List Told) (late : List Step) (end : Ended)
+      → HaltsWith plan o now least files pairs room steps late
       → now.states end.place ≡ state.Running → ended late end.place ≡ false
       → end.status ≡ (now.will end.place).status → end.log ≡ (now.will end.place).log
       → OnlyUndone plan now.states files later
-      → HaltsWith plan o now later pairs room (steps ++ told.End end ∷ [])
+      → HaltsWith plan o now least later pairs room (steps ++ told.End end ∷ [])
       (late ++ End end.place end.status ∷ [])
-  halts-behind files later pairs room steps late end with_late running free status_is log_is
+  halts-behind least files later pairs room steps late end with_late running free status_is log_is
       undone =
       let halts = with_late.halts in
-      let p = stores plan s notes in
       let last = End end.place end.status ∷ [] in
+      let due = due_pairs plan s notes (ends_of halts.late) in
+      let more = due_pairs plan s notes (end.place ∷ []) in
       let free_here : ended halts.late end.place ≡ false =
       ap (λ xs. ended xs end.place) with_late.late_is ∙ free in
       record {
@@ -257,14 +280,15 @@ module _ (grounds : HaltGrounds) (plan : Plan) (o : Opening) (now : Now)
           ends = have-both status_at halts.late last halts.ends (ends-well end running status_is);
           undone = only-undone plan now now.files files later halts.undone undone;
           less = halts.less;
-          put = halts.put;
-          unput = halts.unput ++ filter p (end.place ∷ []);
-          due =
-              ap (filter p) (ends-push halts.late (End end.place end.status))
-              ∙ filter-append p (ends_of halts.late) (end.place ∷ [])
-              ∙ ap (λ xs. xs ++ filter p (end.place ∷ [])) halts.due
-              ∙ append_assoc halts.put halts.unput (filter p (end.place ∷ []));
-          pairs_are = halts.pairs_are;
+          least_is = halts.least_is;
+          within = halts.within;
+          pairs_are =
+              subst (λ ps. AreFirst least ps pairs)
+              (append_assoc now.pairs due more
+              ∙ ap (λ ps. now.pairs ++ ps)
+              (sym (ap (due_pairs plan s notes) (ends-more halts.late last)
+              ∙ due-more plan s notes (ends_of halts.late) (end.place ∷ []))))
+              (first-behind least now.pairs due more pairs halts.within halts.pairs_are);
         };
         late_is = ap (λ xs. xs ++ last) with_late.late_is;
       }
@@ -296,8 +320,8 @@ module _ (grounds : HaltGrounds) (plan : Plan) (o : Opening) (now : Now)
 
   -- ---- where it stopped
 
-  module _ (files : FileMap) (pairs : List Pair) (room : ℕ) (steps : List Told)
-      (halts : Halts plan o now files pairs room steps) where
+  module _ (least : ℕ) (files : FileMap) (pairs : List Pair) (room : ℕ) (steps : List Told)
+      (halts : Halts plan o now least files pairs room steps) where
     noted-so : (t : ℕ) → NotedAs plan s room t (ended story.mine t) (notes t)
     noted-so t =
         subst (λ b. NotedAs plan s room t b (notes t))
@@ -311,25 +335,43 @@ module _ (grounds : HaltGrounds) (plan : Plan) (o : Opening) (now : Now)
         halts.steps_are ∙ ap (λ xs. xs ++ map (step_of plan s) halts.late) story.steps
         ∙ append_assoc o.steps (map (step_of plan s) story.mine) (map (step_of plan s) halts.late)
 
-    abbrev puts : List ℕ
-    puts = filter (stores plan s notes) (ends_of story.mine)
+    abbrev due : List Step → List Pair
+    due ends = due_pairs plan s notes (ends_of ends)
 
-    pairs-so : pairs ≡ o.pairs ++ (map (clean_pair s) puts ++ map (clean_pair s) halts.put)
-    pairs-so =
-        halts.pairs_are
-        ∙ ap (λ ps. ps ++ map (clean_pair s) halts.put) (runs grounds.laws plan o now stands).pairs
-        ∙ ap (λ ts. (o.pairs ++ map (clean_pair s) ts) ++ map (clean_pair s) halts.put) story.puts
-        ∙ append_assoc o.pairs (map (clean_pair s) puts) (map (clean_pair s) halts.put)
+    pairs-now : now.pairs ≡ o.pairs ++ due story.mine
+    pairs-now =
+        (runs grounds.laws plan o now stands).pairs
+        ∙ ap (λ ts. o.pairs ++ map (clean_pair s) ts) story.puts
+
+    all-due : now.pairs ++ due halts.late ≡ o.pairs ++ due (story.mine ++ halts.late)
+    all-due =
+        ap (λ ps. ps ++ due halts.late) pairs-now
+        ∙ append_assoc o.pairs (due story.mine) (due halts.late)
+        ∙ ap (λ ps. o.pairs ++ ps)
+        (sym (ap (due_pairs plan s notes) (ends-more story.mine halts.late)
+        ∙ due-more plan s notes (ends_of story.mine) (ends_of halts.late)))
+
+    pairs-so : AreFirst least (o.pairs ++ due (story.mine ++ halts.late)) pairs
+    pairs-so = subst (λ ps. AreFirst least ps pairs) all-due halts.pairs_are
+
+    opening-lasts : length o.pairs ≤ least
+    opening-lasts = omega (arith, story.lasts, halts.least_is)
+
+    mine-there : length now.pairs ≤ least → length o.pairs + length (due story.mine) ≤ least
+    mine-there kept =
+        let size = ap length pairs-now ∙ length-append o.pairs (due story.mine) in
+        omega (arith, size, kept)
 
     stays-good : IsGood o.book pairs
     stays-good =
-        subst (IsGood o.book) (sym halts.pairs_are)
-        (good-more grounds plan o now stands now.pairs halts.put
+        good-first o.book least (now.pairs ++ due halts.late) pairs halts.pairs_are
+        (good-more grounds plan o now stands now.pairs
+        (filter (stores plan s notes) (ends_of halts.late))
         (runs grounds.laws plan o now stands).good
-        (late-due grounds plan o now stands notes halts.late halts.put halts.unput
-        halts.late_are halts.due))
+        (late-due grounds plan o now stands notes halts.late halts.late_are))
 
-    pub stops-at : StopsAt plan o now.states notes files pairs room steps
+    pub stops-at : StopsAt plan o (length now.pairs ≤ least) now.states notes files pairs room
+        steps
     stops-at = record {
       mine = story.mine;
       at = story.at;
@@ -340,31 +382,34 @@ module _ (grounds : HaltGrounds) (plan : Plan) (o : Opening) (now : Now)
       ends = have-both status_at story.mine halts.late mine-end halts.ends;
       leaves = shows-kept files halts.undone;
       noted = noted-so;
-      put = halts.put;
-      unput = halts.unput;
-      due = halts.due;
+      least = least;
+      least_is = opening-lasts;
       pairs_are = pairs-so;
+      all = mine-there;
       good = stays-good;
     }
 
     pub safe-so : IsSafe plan o room steps pairs
     safe-so =
-        let p = stores plan s notes in
+        let ends = ends_of (story.mine ++ halts.late) in
+        let puts = filter (stores plan s notes) ends in
+        let first = first-split least o.pairs (due_pairs plan s notes ends) pairs opening-lasts
+        pairs-so in
         record {
           mine = story.mine;
           late = map (step_of plan s) halts.late;
           steps_are = steps-so;
           notes = notes;
           noted = noted-so;
-          put = puts ++ halts.put;
-          unput = halts.unput;
+          put = take first.0 puts;
+          unput = drop first.0 puts;
           due =
-              ap (λ es. filter p (ends_of story.mine ++ es)) (told-step plan s halts.late)
-              ∙ filter-append p (ends_of story.mine) (ends_of halts.late)
-              ∙ ap (λ es. puts ++ es) halts.due
-              ∙ sym (append_assoc puts halts.put halts.unput);
-          pairs_are = pairs-so
-              ∙ ap (λ ps. o.pairs ++ ps) (sym (map-append (clean_pair s) puts halts.put));
+              ap (λ es. filter (stores plan s notes) (ends_of story.mine ++ es))
+              (told-step plan s halts.late)
+              ∙ ap (filter (stores plan s notes)) (sym (ends-more story.mine halts.late))
+              ∙ sym (take-append-drop first.0 puts);
+          pairs_are = first.1
+              ∙ ap (λ ps. o.pairs ++ ps) (take-map (clean_pair s) first.0 puts);
           good = stays-good;
         }
 
@@ -373,17 +418,20 @@ module _ (grounds : HaltGrounds) (plan : Plan) (o : Opening) (now : Now)
   unchanged : OnlyUndone plan now.states now.files now.files
   unchanged path each = refl
 
-  safe-now : IsSafe plan o now.room now.steps now.pairs
-  safe-now =
-      safe-so now.files now.pairs now.room now.steps
-      (halts-before now.files now.room unchanged (omega arith)).halts
+  safe-now : (pairs : List Pair) → AreFirst now.lasting now.pairs pairs
+      → IsSafe plan o now.room now.steps pairs
+  safe-now pairs first =
+      safe-so now.lasting now.files pairs now.room now.steps
+      (halts-before now.lasting now.files pairs now.room unchanged (omega arith) story.within first
+      (omega arith)).halts
 
-  safe-at : (end : Ended) (sound : Bool) (pairs : List Pair) → EndsNow plan now end sound
-      → MayBePut plan now end sound pairs
+  safe-at : (end : Ended) (sound : Bool) (added pairs : List Pair) → EndsNow plan now end sound
+      → MayBePut plan now end sound added → AreFirst now.lasting added pairs
       → IsSafe plan o now.room (now.steps ++ told.End end ∷ []) pairs
-  safe-at end sound pairs ends may =
-      safe-so now.files pairs now.room (now.steps ++ told.End end ∷ [])
-      (halts-at end sound ends now.files pairs now.room unchanged may (omega arith)).halts
+  safe-at end sound added pairs ends may first =
+      safe-so now.lasting now.files pairs now.room (now.steps ++ told.End end ∷ [])
+      (halts-at end sound ends now.lasting now.files added pairs now.room unchanged may
+      (omega arith) story.within first (omega arith)).halts
 
   has-run : (t : ℕ) → now.states t ≡ state.Running
       → (started story.mine t ≡ true) × (ended story.mine t ≡ false)
@@ -394,17 +442,19 @@ module _ (grounds : HaltGrounds) (plan : Plan) (o : Opening) (now : Now)
 
 pub halt-law : HaltGrounds → HaltLaw
 halt-law grounds = record {
-  before_end = λ plan o now files room stands. halts-before grounds plan o now stands files room;
-  at_end = λ plan o now end sound files pairs room stands calm ends.
-      halts-at grounds plan o now stands end sound ends files pairs room;
-  behind = λ plan o now files later pairs room steps late end stands.
-      halts-behind grounds plan o now stands files later pairs room steps late end;
+  before_end = λ plan o now least files pairs room stands.
+      halts-before grounds plan o now stands least files pairs room;
+  at_end = λ plan o now end sound least files added pairs room stands calm ends.
+      halts-at grounds plan o now stands end sound ends least files added pairs room;
+  behind = λ plan o now least files later pairs room steps late end stands.
+      halts-behind grounds plan o now stands least files later pairs room steps late end;
   unsaid = halts-unsaid;
-  stopped = λ plan o now files pairs room steps stands.
-      stops-at grounds plan o now stands files pairs room steps;
+  fewer = halts-fewer;
+  stopped = λ plan o now least files pairs room steps stands.
+      stops-at grounds plan o now stands least files pairs room steps;
   runs = λ plan o now t stands. has-run grounds plan o now stands t;
-  safe = λ plan o now stands. safe-now grounds plan o now stands;
-  safe_at_end = λ plan o now end sound pairs stands calm ends may.
-      safe-at grounds plan o now stands end sound pairs ends may;
+  safe = λ plan o now pairs stands. safe-now grounds plan o now stands pairs;
+  safe_at_end = λ plan o now end sound added pairs stands calm ends.
+      safe-at grounds plan o now stands end sound added pairs ends;
   safe_later = safe-later;
 }

@@ -1,9 +1,9 @@
 -- What a run of a plan leaves.
-use Rattle.std.specs.Prelude.{◌≡◌, ◌≢◌, ◌⊎◌, ℕ, ◌<◌, ◌≤◌, Bool, true, false, List, [], ◌∷◌, ◌++◌, map, filter, length, ⊤}
+use Rattle.std.specs.Prelude.{◌≡◌, ◌≢◌, ◌⊎◌, ℕ, ◌+◌, ◌<◌, ◌≤◌, Bool, true, false, List, [], ◌∷◌, ◌++◌, map, filter, length, ⊤}
 use Rattle.rel_path.specs.Paths.{Path}
 use Rattle.rel_path.specs.Files.{FileMap}
 use Rattle.globs.specs.Outputs.{takes}
-use Rattle.cache_api.specs.Pairs.{Pair}
+use Rattle.cache_api.specs.Pairs.{Pair, AreFirst}
 use Rattle.page.specs.declared.blocks.Note.{Note}
 use Rattle.spawn_dev.specs.declared.command.Step.{Step as Told}
 use Rattle.run_core.specs.declared.states.Step.{Step}
@@ -102,10 +102,12 @@ AreLate states (End t x ∷ steps) =
 --
 -- `mine` are the steps that it dealt with, by the rules of the scheduler, up to the states. Behind them stand only ends of
 -- commands that ran then, each what the command does in the run without a cache. Each task that was done has left its log
--- and owned files. The pairs are those of the opening, behind them in the order of ends the results that were put, and of
--- the results of the ends behind some first part.
-pub record StopsAt (plan : Plan) (o : Opening) (states : States) (notes : ℕ → Note)
-    (files : FileMap) (pairs : List Pair) (room : ℕ) (steps : List Told) : Type 0 where
+-- and owned files. The pairs are those of the opening, and behind them in the order of ends some first part of the results
+-- that these ends add. Where what was due had been put when the run stopped, which `kept` says, these are at least the
+-- results of the ends that it dealt with.
+pub record StopsAt (plan : Plan) (o : Opening) (kept : Type 0) (states : States)
+    (notes : ℕ → Note) (files : FileMap) (pairs : List Pair) (room : ℕ) (steps : List Told)
+    : Type 0 where
   pub mine : List Step
   pub at : IsAt (tasks_of plan o) states mine
   pub late : List Step
@@ -115,19 +117,22 @@ pub record StopsAt (plan : Plan) (o : Opening) (states : States) (notes : ℕ �
   pub leaves : (t : ℕ) → has_script (part_at plan.listing t) ≡ true → is_done (states t) ≡ true
       → Shows plan.mode o.book plan.listing t files
   pub noted : (t : ℕ) → NotedAs plan (setting_of plan o) room t (ended mine t) (notes t)
-  pub put : List ℕ
-  pub unput : List ℕ
-  pub due : filter (stores plan (setting_of plan o) notes) (ends_of late) ≡ put ++ unput
-  pub pairs_are : pairs ≡ o.pairs ++ (due_pairs plan (setting_of plan o) notes (ends_of mine)
-      ++ map (clean_pair (setting_of plan o)) put)
+  pub least : ℕ
+  pub least_is : length o.pairs ≤ least
+  pub pairs_are : AreFirst least (o.pairs ++ due_pairs plan (setting_of plan o) notes
+      (ends_of (mine ++ late))) pairs
+  pub all : kept
+      → length o.pairs + length (due_pairs plan (setting_of plan o) notes (ends_of mine)) ≤ least
   pub good : IsGood o.book pairs
 
--- What a run that did not come to its end leaves, and the page that it has printed by then.
-pub record Stopped (plan : Plan) (o : Opening) (files : FileMap) (pairs : List Pair) (room : ℕ)
-    (steps : List Told) (cause : Cause) (Heard : Type 0) (before after : List ℕ) : Type 0 where
+-- What a run that did not come to its end leaves, and the page that it has printed by then. `kept` says that what was due
+-- had been put when it stopped.
+pub record Stopped (plan : Plan) (o : Opening) (kept : Type 0) (files : FileMap)
+    (pairs : List Pair) (room : ℕ) (steps : List Told) (cause : Cause) (Heard : Type 0)
+    (before after : List ℕ) : Type 0 where
   pub states : States
   pub notes : ℕ → Note
-  pub stops : StopsAt plan o states notes files pairs room steps
+  pub stops : StopsAt plan o kept states notes files pairs room steps
   pub page_is : Heard → IsTornPage plan o states notes cause before after
 
 -- ---- at each moment

@@ -11,3 +11,4 @@ pub mod Stories
 pub mod StoryLaws
 pub mod Halts
 pub mod Costs
+pub mod KeyLengths

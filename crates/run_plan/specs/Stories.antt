@@ -1,5 +1,5 @@
 -- How a run of a plan came to where it is: the moves of the scheduler and those of the files and the cache, in step.
-use Rattle.std.specs.Prelude.{◌≡◌, ℕ, ◌≤◌, Bool, true, false, ◌&&◌, List, ◌++◌, map, filter, Option, Some, None}
+use Rattle.std.specs.Prelude.{◌≡◌, ℕ, ◌≤◌, Bool, true, false, ◌&&◌, List, ◌++◌, map, filter, length, Option, Some, None}
 use Rattle.rel_path.specs.Files.{FileMap}
 use Rattle.cache_api.specs.Pairs.{Pair}
 use Rattle.page.specs.declared.blocks.Note.{Note}
@@ -22,7 +22,8 @@ use Rattle.run_plan.specs.Openings.{Opening, setting_of, tasks_of}
 use Rattle.run_plan.specs.Results.{effect_at, step_of, NotedAs, stores, ends_of}
 use Rattle.run_plan.specs.Pages.{report_of}
 
--- How far a run is, as its scheduler, its devices and its table of reports tell it.
+-- How far a run is, as its scheduler, its devices and its table of reports tell it. Of the pairs the first ones last,
+-- whatever crashes.
 pub record Now : Type 0 where
   pub states : States
   pub book : Book
@@ -30,6 +31,7 @@ pub record Now : Type 0 where
   pub will : ℕ → Effect
   pub files : FileMap
   pub pairs : List Pair
+  pub lasting : ℕ
   pub room : ℕ
   pub reports : ℕ → Option Report
   pub logs : ℕ → List ℕ
@@ -81,7 +83,7 @@ ReportsAs report false o = o ≡ None
 ReportsAs report true o = o ≡ Some report
 
 -- Moves of the scheduler lead to its states and steps, and moves of the files and the cache lead to these, each with
--- what the states say of its task.
+-- what the states say of its task. All pairs of the opening last.
 pub record Story (plan : Plan) (o : Opening) (now : Now) : Type 0 where
   pub book : now.book ≡ o.book
   pub mine : List Step
@@ -92,6 +94,8 @@ pub record Story (plan : Plan) (o : Opening) (now : Now) : Type 0 where
   pub leads : Leads (setting_of plan o) (opening (setting_of plan o)) moves (progress_of now.states now.files now.pairs will)
   pub will_is : (t : ℕ) → now.states t ≡ state.Running → now.will t ≡ will t
   pub puts : puts_of moves ≡ filter (stores plan (setting_of plan o) (notes_in now.reports)) (ends_of mine)
+  pub lasts : length o.pairs ≤ now.lasting
+  pub within : now.lasting ≤ length now.pairs
   pub reports : (t : ℕ) → ReportsAs (report_of plan (setting_of plan o) (notes_in now.reports t) t) (shows_now plan now t) (now.reports t)
   pub noted : (t : ℕ) → NotedAs plan (setting_of plan o) now.room t (has_ended (now.states t)) (notes_in now.reports t)
   pub logs : (t : ℕ) → shows_now plan now t ≡ true → now.shown ≤ t → now.logs t ≡ (effect_at (setting_of plan o) t).log

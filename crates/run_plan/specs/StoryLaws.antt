@@ -63,9 +63,9 @@ pub record EndsNow (plan : Plan) (now : Now) (end : Ended) (sound : Bool) : Type
   pub log : end.log ≡ (now.will end.place).log
   pub sound_is : TellsGood plan now.states end.place sound
 
--- Such an end, whose log was written, and whose result was kept.
+-- Such an end, whose log was written, and whose result was kept. No fewer of the pairs last than before.
 pub record EndIs (plan : Plan) (now : Now) (end : Ended) (sound : Bool) (note : Note)
-    (pairs : List Pair) (room : ℕ) (report : Report) : Type 0 where
+    (pairs : List Pair) (lasting room : ℕ) (report : Report) : Type 0 where
   pub ends : EndsNow plan now end sound
   pub kept : KeptIf (to_put plan sound end.place end.status)
       (KeptAs (logged (part_at plan.listing end.place) end.log
@@ -73,6 +73,8 @@ pub record EndIs (plan : Plan) (now : Now) (end : Ended) (sound : Bool) (note : 
       (part_at plan.listing end.place).outs plan.limit (key_of plan.listing end.place) end.log
       now.pairs room pairs note)
       note now.pairs pairs
+  pub lasts : now.lasting ≤ lasting
+  pub within : lasting ≤ length pairs
   pub less : room ≤ now.room
   pub report_is : report ≡ record {
     mark = if bypasses plan end.place then printed_mark.Bypass else printed_mark.Miss;
@@ -82,14 +84,15 @@ pub record EndIs (plan : Plan) (now : Now) (end : Ended) (sound : Bool) (note : 
   }
 
 -- where the run is after such an end
-abbrev pub after_this : Plan → Now → Ended → (ℕ → Effect) → List Pair → ℕ → Report → Now
-after_this plan now end will pairs room report = record {
+abbrev pub after_this : Plan → Now → Ended → (ℕ → Effect) → List Pair → ℕ → ℕ → Report → Now
+after_this plan now end will pairs lasting room report = record {
   states = after_end (rules_of plan) now.states end.place end.status;
   book = now.book;
   steps = now.steps ++ told.End end ∷ [];
   will = will;
   files = logged (part_at plan.listing end.place) end.log (over now.files (file_at (now.will end.place).files));
   pairs = pairs;
+  lasting = lasting;
   room = room;
   reports = put_at now.reports end.place (Some report);
   logs = put_at now.logs end.place end.log;
@@ -116,7 +119,7 @@ pub record Over (plan : Plan) (o : Opening) (now : Now) : Type 0 where
 pub record StoryLaw : Type 0 where
   -- at the opening
   pub first : (plan : Plan) (o : Opening) (will : ℕ → Effect) (room : ℕ) (logs : ℕ → List ℕ)
-      → Story plan o (record { states = λ t. Waiting; book = o.book; steps = o.steps; will = will; files = o.files; pairs = o.pairs; room = room; reports = λ t. None; logs = logs; shown = 0 })
+      → Story plan o (record { states = λ t. Waiting; book = o.book; steps = o.steps; will = will; files = o.files; pairs = o.pairs; lasting = length o.pairs; room = room; reports = λ t. None; logs = logs; shown = 0 })
   -- less room
   pub less : (plan : Plan) (o : Opening) (now : Now) (room : ℕ) → Stands plan o now → room ≤ now.room → Story plan o (record now { room = room })
   -- a task without a script is passed over
@@ -147,10 +150,13 @@ pub record StoryLaw : Type 0 where
         files = cleared (part_at plan.listing t).outs now.files;
       })
   -- a command ends
-  pub end : (plan : Plan) (o : Opening) (now : Now) (end : Ended) (sound : Bool) (note : Note) (will : ℕ → Effect) (pairs : List Pair) (room : ℕ) (report : Report)
-      → Stands plan o now → IsCalm (rules_of plan) now.states → next (rules_of plan) now.states ≡ WaitFirst → EndIs plan now end sound note pairs room report
+  pub end : (plan : Plan) (o : Opening) (now : Now) (end : Ended) (sound : Bool) (note : Note) (will : ℕ → Effect) (pairs : List Pair) (lasting room : ℕ) (report : Report)
+      → Stands plan o now → IsCalm (rules_of plan) now.states → next (rules_of plan) now.states ≡ WaitFirst → EndIs plan now end sound note pairs lasting room report
       → ((u : ℕ) → u ≢ end.place → now.states u ≡ Running → will u ≡ now.will u)
-      → Story plan o (after_this plan now end will pairs room report)
+      → Story plan o (after_this plan now end will pairs lasting room report)
+  -- more of the pairs last
+  pub settles : (plan : Plan) (o : Opening) (now : Now) (lasting : ℕ) → Stands plan o now → now.lasting ≤ lasting → lasting ≤ length now.pairs
+      → Story plan o (record now { lasting = lasting })
   -- nothing is left to do
   pub over : (plan : Plan) (o : Opening) (now : Now) → Stands plan o now → next (rules_of plan) now.states ≡ Finished → Over plan o now
   -- the block of the next task is put, or it has none

@@ -1,44 +1,51 @@
 // The commands of tasks.
 ghost use Rattle.std.specs.Prelude.{◌≡◌, ◌++◌, ◌<◌, ◌-◌, length, map, take, IfOk, OnOk};
+ghost use Rattle.run_laws.specs.Ancestors.{has_script};
 ghost use Rattle.run_plan.specs.Memory.{OnlyMemory};
 ghost use Rattle.run_plan.specs.Plans.{IsValidPlan};
 ghost use Rattle.run_plan.specs.Commands.{outs_of, externals_of, command_of};
 
-use crate::tables::runs;
 use crate::{Plan, PlanErr};
-use closures::closure;
+use closures::excerpt;
 use globs::OutSets;
-use listing::Part;
-use rel_path::{Bytes, Pairs, Paths, RelPath};
+use listing::{FileIn, PartIn};
+use rel_path::{Pairs, Paths};
 use spawn_dev::Command;
 use std::alloc::Global;
 
+// Whether the part has a script.
+fn runs(part: &PartIn<'_>) -> bool
+    ensures { result ≡ has_script part.now }
+{
+    !part.scripts().as_slice().is_empty()
+}
+
 // The output sets of the parts that have a script.
-fn outs_of(alloc: Global, parts: &[Part]) -> Result<OutSets, PlanErr>
+fn outs_of(alloc: Global, parts: &[PartIn<'_>]) -> Result<OutSets, PlanErr>
     ensures outs { IfOk result (λ outs. outs ≡ outs_of parts.now) }
     ensures memory { OnlyMemory result }
 {
     let mut outs = OutSets::new(alloc);
     for part in parts {
         if runs(part) {
-            outs.push(part.outs.copy()?)?;
+            outs.push(part.outs().copy()?)?;
         }
     }
     Ok(outs)
 }
 
-fn push_externals(all: &mut Pairs, part: &Part) -> Result<(), PlanErr>
+fn push_externals(all: &mut Pairs, part: &PartIn<'_>) -> Result<(), PlanErr>
     ensures pushed { OnOk result (all.new ≡ all.old ++ part.now.externals) }
     ensures memory { OnlyMemory result }
 {
-    for (location, entry) in part.externals.as_slice() {
+    for (location, entry) in part.externals().as_slice() {
         all.push((location.copy()?, entry.copy()?))?;
     }
     Ok(())
 }
 
 // The installed packages that the parts use.
-fn externals_of(alloc: Global, parts: &[Part]) -> Result<Pairs, PlanErr>
+fn externals_of(alloc: Global, parts: &[PartIn<'_>]) -> Result<Pairs, PlanErr>
     ensures externals { IfOk result (λ all. all ≡ externals_of parts.now) }
     ensures memory { OnlyMemory result }
 {
@@ -49,25 +56,22 @@ fn externals_of(alloc: Global, parts: &[Part]) -> Result<Pairs, PlanErr>
     Ok(all)
 }
 
-fn paths_of(alloc: Global, files: &[(RelPath, Bytes)]) -> Result<Paths, PlanErr>
+fn paths_of(alloc: Global, files: &[FileIn<'_>]) -> Result<Paths, PlanErr>
     ensures paths { IfOk result (λ paths. paths ≡ map (λ f. f.0) files.now) }
     ensures memory { OnlyMemory result }
 {
     let mut paths = Paths::new(alloc);
     for file in files {
-        paths.push(file.0.copy()?)?;
+        paths.push(file.path().copy()?)?;
     }
     Ok(paths)
 }
 
 // All but the last.
-fn but_last(parts: &[Part]) -> &[Part]
+fn but_last<'s, 'a>(parts: &'s [PartIn<'a>]) -> &'s [PartIn<'a>]
     ensures { result.now ≡ take (length parts.now - 1) parts.now }
 {
-    match parts.split_last() {
-        Some((_, before)) => before,
-        None => parts,
-    }
+    &parts[..parts.len().saturating_sub(1)]
 }
 
 impl Plan {
@@ -80,8 +84,8 @@ impl Plan {
         ensures memory { OnlyMemory result }
     {
         let part = self.part(place);
-        let closure = closure(alloc, &self.listing, place)?;
-        let parts = closure.parts.as_slice();
+        let closure = excerpt(alloc, &self.listing, place)?;
+        let parts = closure.parts();
         Ok(Command {
             place,
             package: part.package.copy()?,
@@ -92,7 +96,7 @@ impl Plan {
             env: part.env.copy()?,
             given: self.passed(place).copy()?,
             externals: externals_of(alloc, parts)?,
-            reads: paths_of(alloc, closure.files.as_slice())?,
+            reads: paths_of(alloc, closure.files())?,
             above: outs_of(alloc, but_last(parts))?,
             outs: part.outs.copy()?,
         })

@@ -11,5 +11,5 @@ returns-clause-parts c =
     let l = c.args.listing.now in
     let kept = c.args.kept.now in
     let none : drop c.loop-place.place-index kept ≡ [] = drop_all c.loop-place.place-index kept c.loop-place-test.false in
-    sym (append-nil c.loop-place.parts) ∙ ap (λ ks. c.loop-place.parts ++ map (λ k. renumbered (has kept) (part_at l k)) ks) (sym none) ∙ c.loop-place.invariant
+    sym (append-nil c.loop-place.parts.items) ∙ ap (λ ks. c.loop-place.parts.items ++ map (λ k. renumbered (has kept) (part_at l k)) ks) (sym none) ∙ c.loop-place.invariant
     ∙ parts-are l kept c.requires.ascend c.requires.inner

@@ -5,4 +5,4 @@ use Rattle.closures.specs.Places.{has}
 use Rattle.closures.proofs.renumbering.parts_of.Given as goal
 
 abbrev pub invariant-loop-place : goal.invariant-loop-place
-invariant-loop-place l = l.parts ++ map (λ k. renumbered (has l.kept) (part_at l.listing k)) (drop l.place-index l.kept) ≡ map (λ k. renumbered (has l.kept) (part_at l.listing k)) l.kept
+invariant-loop-place l = l.parts.items ++ map (λ k. renumbered (has l.kept) (part_at l.listing k)) (drop l.place-index l.kept) ≡ map (λ k. renumbered (has l.kept) (part_at l.listing k)) l.kept

@@ -8,7 +8,7 @@ pub loop-part-preserved : goal.loop-part-preserved
 loop-part-preserved c =
     outs-step c.args.parts.now c.loop-part.part-index c.part-item.result c.loop-part.outs c.if-runs.outs c.loop-part-test.true c.part-item.is c.loop-part.invariant
     (λ k. elim c.if-runs.branch [
-      | then-runs+in_ok-copy+in_ok-push w ↦ w.outs-is ∙ w.in_ok-push.ensures.pushed ∙ ap (λ x. c.loop-part.outs ++ x ∷ []) w.in_ok-copy.ensures.value
+      | then-runs+in_ok-copy+in_ok-push w ↦ w.outs-is ∙ w.in_ok-push.ensures.pushed ∙ ap (λ x. c.loop-part.outs ++ x ∷ []) (w.in_ok-copy.ensures.value ∙ w.outs.ensures)
       | else-runs w ↦ absurd (true≢false (sym k ∙ sym c.runs.ensures ∙ w.if-runs.false))
     ])
     (λ k. elim c.if-runs.branch [

@@ -1,4 +1,5 @@
 use Rattle.std.proofs.Common.{◌-◌, ◌∙◌, ap, map, take, length}
+use Rattle.listing.specs.declared.part.Listing.{Listing}
 use Rattle.run_plan.specs.Commands.{outs_of, externals_of, command_of}
 use Rattle.run_plan.proofs.CommandFacts.{above-is}
 use Rattle.run_plan.proofs.plan.Plan.command.Goals as goal
@@ -7,8 +8,8 @@ pub returns-clause-command : goal.returns-clause-command
 unfolding command_of
 returns-clause-command c =
     let part = c.part-part.ensures in
-    let parts = c.as_slice-parts.ensures ∙ ap (λ l. l.parts) c.in_ok-closure.ensures.value in
-    let files = c.as_slice.ensures ∙ ap (λ l. l.files) c.in_ok-closure.ensures.value in
+    let parts = c.parts-parts.ensures ∙ ap (λ (l : Listing). l.parts) c.in_ok-closure.ensures.value in
+    let files = c.files.ensures ∙ ap (λ (l : Listing). l.files) c.in_ok-closure.ensures.value in
     let externals = c.in_ok-externals_of.ensures.externals ∙ ap externals_of parts in
     let reads = c.in_ok-paths_of.ensures.paths ∙ ap (map (λ f. f.0)) files in
     let above = c.in_ok-outs_of.ensures.outs ∙ ap outs_of (c.but_last.ensures ∙ ap (λ ps. take (length ps - 1) ps) parts) ∙ above-is c.args.self.now.listing c.args.place c.requires.plan.ordered.lower c.requires.place in
