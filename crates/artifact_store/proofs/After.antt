@@ -1,6 +1,7 @@
 -- A store whose log was appended to.
-use Rattle.std.proofs.Common.{◌≡◌, ◌⊎◌, inl, inr, ⊎_elim, ℕ, ◌<◌, ◌≤◌, Bool, List, [], ◌∷◌, ◌++◌, length, map, take, get_or, Some, Err, refl, sym, ◌∙◌, ap, subst, arith}
+use Rattle.std.proofs.Common.{◌≡◌, ◌⊎◌, inl, inr, ⊎_elim, ℕ, ◌<◌, ◌≤◌, Bool, List, [], ◌∷◌, ◌++◌, length, map, take, get_or, Some, Err, refl, sym, ◌∙◌, ap, subst, arith, length-append}
 use Rattle.std.specs.Prelude.{IsTrue}
+use Rattle.std.proofs.Math.Seq.{take-length}
 use Rattle.std.proofs.lemmas.List.{append-nil, take_all, take-append-le}
 use Rattle.store_dev.specs.Device.{LeavesOnly}
 use Rattle.store_dev.specs.Moments.{reads_leave, leaves_then}
@@ -9,7 +10,8 @@ use Rattle.cache_api.specs.declared.error.CacheErr.{CacheErr}
 use Rattle.cache_api.specs.declared.error.CacheErr.TheVariants.{Full, Failed, OutOfMemory}
 use Rattle.cache_api.specs.Cache.{HitsStay, CacheReads, StaysWhole, AllAfter, IsFindErr}
 use Rattle.cache_api.specs.Moments.{Leaves}
-use Rattle.cache_api.specs.Pairs.{Pair, IsFirstPart}
+use Rattle.cache_api.specs.Pairs.{Pair, IsFirstPart, IsPartSince}
+use Rattle.cache_api.proofs.Firsts.{all_part, added_part}
 use Rattle.record_log.specs.declared.log.Log.{Log}
 use Rattle.record_log.specs.Kinds.{Entry, generation_after, generation_from, generation_of}
 use Rattle.record_log.specs.Frames.{opened, text_of}
@@ -131,15 +133,17 @@ cache_reads {G = G} old new whole only reads =
     let same = frames_read old.log new.log reads.log in
     record {
       pairs = λ told. ap pairs_in same;
+      lasting = λ told. ap (λ (l : List Entry). length (pairs_in l)) same;
+      sure = λ told. reads.log.room;
       cost_same = λ told key. (λ i. costs.cost_of (lengths_in (reads.index i)) (same i) key);
       hits = hits_after old new [] (λ told. inl same);
       left = λ told. store_leaves old new
           (λ c. told_as old.generation c ≡ Some (pairs_in (frames_of old)))
-          (λ c. told_as old.generation c ≡ Some (pairs_in (frames_of old)))
+          (λ c. IsPartSince (length (pairs_in (frames_of old))) (pairs_in (frames_of old)) (told_as old.generation c))
           (reads_leave G.content G.images G.moment G.images_since (device_of old) (device_of new)
           (λ c. told_as old.generation c ≡ Some (pairs_in (frames_of old))) reads.log.device only
           (images_told (old.log.kept whole told) old.generation (old.same whole told)))
-          (λ c is. is);
+          (λ c is. all_part (pairs_in (frames_of old)) (told_as old.generation c) is);
       keeps = record { base = reads.generation; room = omega (arith, reads.log.room); probes = reads.log.probes };
     }
 
@@ -152,13 +156,20 @@ stays_err T OutOfMemory before now is = tt
 
 pub after_err : (T : Type 0) (e : CacheErr) (before added now : List Pair) → IsFindErr e
     → (e ≡ Failed) ⊎ (now ≡ before) → (now ≡ before) ⊎ (now ≡ before ++ added)
-    → AllAfter {T = T} (Err e) before added now
+    → AllAfter {T = T} (Err e) (length before) before added now
 after_err T Full before added now is same after = absurd is
 after_err T Failed before added now is same after = ⊎_elim
-    (λ none. (0, omega arith, none ∙ sym (append-nil before)))
-    (λ all. (length added, omega arith, all ∙ ap (λ (l : List Pair). before ++ l) (sym (take_all (length added) added (omega arith)))))
+    (λ none. (length before, omega arith, none ∙ sym (take-append-le (length before) before added (omega arith) ∙ take-length before)))
+    (λ all. (length (before ++ added), omega (arith, length-append before added), all ∙ sym (take-length (before ++ added))))
     after
 after_err T OutOfMemory before added now is same after = ⊎_elim (λ other. absurd (cc)) (λ none. none) same
+
+-- it has no fewer pairs
+pub no_fewer : (before added now : List Pair) → (now ≡ before) ⊎ (now ≡ before ++ added) → length before ≤ length now
+no_fewer before added now after = ⊎_elim
+    (λ none. omega (arith, ap length none))
+    (λ all. omega (arith, ap length all, length-append before added))
+    after
 
 -- ---- images of a store while pairs are added
 
@@ -200,13 +211,14 @@ module _ {S : Type 0} {G : Ghosts S} (old mid new : Store S G) (whole : IsTrue (
       → pairs_in (frames_of old ++ gs) ≡ pairs_in (frames_of old) ++ pairs
       → LeavesOnly G.moment G.images_since (device_of mid) (device_of new) (IsBeforeOrAll (frames_of mid) gs)
       → Leaves moment_of left_of old new
-      (λ c. IsFirstPart (pairs_in (frames_of old)) pairs (told_as old.generation c))
+      (λ c. IsPartSince (length (pairs_in (frames_of old))) (pairs_in (frames_of old) ++ pairs) (told_as old.generation c))
   put_left gs pairs generation added x =
       let here : generation_of (frames_of old) ≡ old.generation = sym (old.same whole told) in
       store_leaves old new (IsBeforeOrAll (frames_of old) gs)
-      (λ c. IsFirstPart (pairs_in (frames_of old)) pairs (told_as old.generation c))
+      (λ c. IsPartSince (length (pairs_in (frames_of old))) (pairs_in (frames_of old) ++ pairs) (told_as old.generation c))
       (images_after gs x)
-      (first_part old.generation (frames_of old) gs pairs here (generation ∙ here) added)
+      (λ c is. added_part (pairs_in (frames_of old)) pairs (told_as old.generation c)
+      (first_part old.generation (frames_of old) gs pairs here (generation ∙ here) added c is))
 
 -- a call that only reads, and one behind it that adds frames
 pub after_both : {S : Type 0} {G : Ghosts S} (old mid new : Store S G) (gs : List Entry) → OnlyReadsStore old mid

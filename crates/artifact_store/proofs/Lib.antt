@@ -3,7 +3,6 @@ pub mod Search
 pub mod Given
 pub mod Looking
 pub mod Shown
-pub mod Fits
 pub mod After
 pub mod Both
 pub mod Opening

@@ -1,11 +1,12 @@
 -- What the images of a store that is whole stand for.
-use Rattle.std.proofs.Common.{◌≡◌, ℕ, Bool, true, false, cond, List, Option, Some, None, Ok, refl, sym, ◌∙◌, ap, arith}
+use Rattle.std.proofs.Common.{◌≡◌, ◌≤◌, ℕ, Bool, true, false, cond, List, length, Option, Some, None, Ok, refl, sym, ◌∙◌, ap, arith}
 use Rattle.std.specs.Prelude.{◌==◌}
 use Rattle.std.proofs.lemmas.Bool.{eq-eqb}
 use Rattle.store_dev.specs.Device.{LeavesOnly}
 use Rattle.store_dev.specs.declared.device.StoreDevice.{Ghosts}
 use Rattle.cache_api.specs.Moments.{Leaves}
-use Rattle.cache_api.specs.Pairs.{Pair}
+use Rattle.cache_api.specs.Pairs.{Pair, IsPartSince}
+use Rattle.cache_api.proofs.Firsts.{all_part}
 use Rattle.record_log.specs.Kinds.{Entry, generation_of}
 use Rattle.record_log.specs.Frames.{reading, frames_of}
 use Rattle.record_log.specs.declared.mark.LogMark.{LogMark}
@@ -60,6 +61,18 @@ pub images_told : {bytes : List ℕ} {images : List ℕ → Type 0} {mark : LogM
     → Kept bytes images mark → (generation : ℕ) → generation ≡ generation_of (frames_of bytes)
     → (c : List ℕ) → images c → told_as generation c ≡ Some (pairs_in (frames_of bytes))
 images_told kept generation same c now = told_is generation c _ (images_read kept c now) (sym same)
+
+-- as a cache: a crash leaves all its pairs
+pub all_told : {bytes : List ℕ} {images : List ℕ → Type 0} {mark : LogMark}
+    → Kept bytes images mark → (generation : ℕ) → generation ≡ generation_of (frames_of bytes)
+    → (c : List ℕ) → images c
+    → IsPartSince (length (pairs_in (frames_of bytes))) (pairs_in (frames_of bytes)) (told_as generation c)
+all_told {bytes = bytes} kept generation same c now =
+    all_part (pairs_in (frames_of bytes)) (told_as generation c) (images_told kept generation same c now)
+
+-- no more of them last, and no more room is sure, than there is
+pub no_more : (n : ℕ) → n ≤ n
+no_more n = omega arith
 
 -- what a crash leaves of a store, it leaves of its device
 pub at_device : {S : Type 0} {G : Ghosts S} (a b : Store S G) (P : List ℕ → Type 0)

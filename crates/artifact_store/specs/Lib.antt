@@ -6,3 +6,4 @@ pub mod Store
 pub mod Marks
 pub mod Opened
 pub mod Laws
+pub mod Fits

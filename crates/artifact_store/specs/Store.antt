@@ -36,13 +36,15 @@ lengths_of store = lengths_in store.index
 abbrev pub count_in : {S : Type 0} {G : Ghosts S} → Store S G → ℕ
 count_in store = length (frames_in store.index)
 
--- What it is as a cache: the pairs of its frames; whether it may be used, how much room it has, how often it failed and
--- how often it was read as its log; and the generation with which it was opened.
+-- What it is as a cache: the pairs of its frames, which all last; whether it may be used, how much room it has, all of it
+-- for sure, how often it failed and how often it was read as its log; and the generation with which it was opened.
 abbrev pub state_of : {S : Type 0} {G : Ghosts S} → Store S G → CacheState ℕ
 state_of {G = G} store = record {
   pairs = pairs_in (log.frames_in store.log);
+  lasting = length (pairs_in (log.frames_in store.log));
   whole = log.is_whole store.log;
   room = log.room_of store.log;
+  sure = log.room_of store.log;
   faults = G.store_faults (log.device_of store.log);
   probes = log.probes_of store.log;
   base = store.generation;

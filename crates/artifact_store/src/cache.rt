@@ -3,12 +3,12 @@ ghost use Rattle.std.specs.Prelude.{◌≡◌, ◌⊎◌, ◌+◌, ◌≤◌, �
 ghost use Rattle.rel_path.specs.Causes.{Counts};
 ghost use Rattle.codes.specs.Views.{found_as};
 ghost use Rattle.store_dev.specs.Device.{LeavesOnly, OnlyReads};
-ghost use Rattle.cache_api.specs.Cache.{CacheReads, Keeps, HitsStay, StaysWhole, AllAfter, ArePut, AreToPut, is_fault, IsFindErr};
+ghost use Rattle.cache_api.specs.Cache.{CacheReads, Keeps, HitsStay, StaysWhole, AllLast, AllAfter, ArePut, AreToPut, is_fault, IsFindErr};
 ghost use Rattle.cache_api.specs.Found.{found};
 ghost use Rattle.cache_api.specs.Hits.{paths_ascend, owns_paths, span_count};
 ghost use Rattle.cache_api.specs.Keys.{text_of as key_text, new_pairs};
 ghost use Rattle.cache_api.specs.Moments.{Leaves};
-ghost use Rattle.cache_api.specs.Pairs.{chosen, IsFirstPart};
+ghost use Rattle.cache_api.specs.Pairs.{chosen, IsPartSince};
 ghost use Rattle.cache_api.specs.Reading.{artifact_in};
 ghost use Rattle.record_log.specs.Batch.{IsBeforeOrAll};
 ghost use Rattle.pair_frames.specs.Puts.{added};
@@ -46,7 +46,8 @@ impl<S: StoreDevice> Store<S> {
 impl<S: StoreDevice> Cache for Store<S> {
     ghost use Rattle.artifact_store.specs.Pairs.{told_as};
     ghost use Rattle.artifact_store.specs.Store.{device_of, frames_of, lengths_of, state_of, moment_of, left_of, cost_of, reads_of, stands, shows, stores};
-    ghost use Rattle.artifact_store.specs.Laws.{images_told};
+    ghost use Rattle.artifact_store.specs.Laws.{all_told, no_more};
+    ghost use Rattle.artifact_store.specs.Fits.{are_to_put};
     ghost use Rattle.artifact_store.specs.Hits.{shown_paths};
 
     ghost tells = { S.tells };
@@ -73,8 +74,14 @@ impl<S: StoreDevice> Cache for Store<S> {
 
     ghost paths = { λ s hit told stood. shown_paths (text_of (frames_of s)) hit };
 
+    ghost within = { λ s told. no_more (length (state_of s).pairs) };
+
+    ghost spare = { λ s told. no_more (state_of s).room };
+
+    ghost to_put = { λ s pairs told whole. are_to_put s pairs };
+
     ghost at_rest = { λ s image told whole left.
-        images_told (s.log.kept whole told) s.generation (s.same whole told) image
+        all_told (s.log.kept whole told) s.generation (s.same whole told) image
         (S.only_now (device_of s) image left) };
 
     /// It goes from the last pair that may have the key to the first, and of a pair it reads the record, and contents to
@@ -142,14 +149,17 @@ impl<S: StoreDevice> Cache for Store<S> {
             (IsBeforeOrAll (frames_of self.old)
             (added (state_of self.old).room (frames_of self.old) (new_pairs pairs.now))) }
         ensures foresees { lengths_of self.new ≡ lengths_of self.old }
-        ensures pairs { S.tells → AllAfter result (state_of self.old).pairs
+        ensures pairs { S.tells → AllAfter result (state_of self.old).lasting
+            (state_of self.old).pairs
             (chosen (new_pairs pairs.now) (stores self.old (new_pairs pairs.now)))
             (state_of self.new).pairs }
-        ensures full { S.tells → AreToPut (state_of self.old).room (new_pairs pairs.now)
+        ensures lasts { S.tells → OnOk result (AllLast (state_of self.new)) }
+        ensures lasting { S.tells → (state_of self.old).lasting ≤ (state_of self.new).lasting }
+        ensures full { S.tells → AreToPut (state_of self.old) (new_pairs pairs.now)
             (stores self.old (new_pairs pairs.now)) }
         ensures left { S.tells → Leaves moment_of left_of self.old self.new
-            (λ image. IsFirstPart (state_of self.old).pairs
-            (chosen (new_pairs pairs.now) (stores self.old (new_pairs pairs.now)))
+            (λ image. IsPartSince (state_of self.old).lasting ((state_of self.old).pairs
+            ++ chosen (new_pairs pairs.now) (stores self.old (new_pairs pairs.now)))
             (told_as (state_of self.old).base image)) }
         ensures hits { HitsStay S.tells stands shows self.old self.new }
         ensures keeps { Keeps (state_of self.old) (state_of self.new) }
@@ -161,5 +171,23 @@ impl<S: StoreDevice> Cache for Store<S> {
         let (staged, puts) = self.stage(alloc, pairs)?;
         self.add(alloc, &staged, pairs, puts.as_slice())?;
         Ok(puts)
+    }
+
+    /// Nothing is ever due.
+    fn settle(&mut self, _alloc: Global) -> Result<(), CacheErr> {
+        Ok(())
+    }
+
+    /// The same.
+    fn is_due(&self, _key: &Key) -> bool {
+        false
+    }
+
+    fn is_whole(&self) -> bool {
+        self.whole()
+    }
+
+    fn room(&self) -> u64 {
+        self.free()
     }
 }

@@ -22,8 +22,9 @@
 //!
 //! `specs/` says which pairs the bytes of a store stand for (`Pairs`), what its openings answer
 //! (`Opened`), what a mark tells (`Marks`), what becomes of pairs that are put (`Outcomes`), what
-//! a store is to its callers (`Store`), when it answers what (`Answers`), and what its images
-//! stand for (`Laws`).
+//! a store is to its callers (`Store`), when it answers what (`Answers`), what its images stand
+//! for (`Laws`), and that there is no room where a pair is not put (`Fits`). As a cache it has all
+//! its room for sure, all its pairs last, and nothing is ever due.
 #![tactic(auto)]
 
 mod cache;

@@ -2,5 +2,8 @@ mod Paths
 mod Text
 mod Only
 mod Steps
-mod OnePut
+pub mod Firsts
 pub mod SoFar
+pub mod Lacking
+pub mod Rooms
+pub mod NonePut

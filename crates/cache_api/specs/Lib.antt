@@ -8,3 +8,4 @@ pub mod Hits
 pub mod Moments
 pub mod Cache
 pub mod Calls
+pub mod Puts

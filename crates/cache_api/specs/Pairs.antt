@@ -1,5 +1,6 @@
 -- The pairs of a cache, and what a crash may leave of them.
-use Rattle.std.specs.Prelude.{◌≡◌, ◌⊎◌, ℕ, ◌≤◌, List, [], ◌∷◌, ◌++◌, length, take, Option, Some}
+use Rattle.std.specs.Prelude.{◌≡◌, ℕ, ◌≤◌, false, List, [], ◌∷◌, ◌++◌, length, take, drop, Option, Some}
+use Rattle.rel_path.specs.Paths.{name_eq}
 use Rattle.cache_api.specs.declared.puts.Put.{Put}
 use Rattle.cache_api.specs.declared.puts.Put.TheVariants.{Stored, Full}
 use Rattle.cache_api.specs.Artifacts.{Artifact, artifact_text}
@@ -19,9 +20,22 @@ chosen (pair ∷ pairs) [] = []
 chosen (pair ∷ pairs) (Stored ∷ puts) = pair ∷ chosen pairs puts
 chosen (pair ∷ pairs) (Full ∷ puts) = chosen pairs puts
 
--- a crash leaves these pairs, or these with a new one behind them
-abbrev pub IsWithOrWithout : List Pair → Pair → Option (List Pair) → Type 0
-IsWithOrWithout before new left = (left ≡ Some before) ⊎ (left ≡ Some (before ++ new ∷ []))
+-- no pair has that key: the whole key counts
+abbrev pub LacksKey : List ℕ → List Pair → Type 0
+LacksKey key [] = Unit {0}
+LacksKey key (pair ∷ pairs) = (name_eq pair.0 key ≡ false) × LacksKey key pairs
+
+-- what is still due of pairs of which so many last, the first ones
+abbrev pub due_of : List Pair → ℕ → List Pair
+due_of pairs lasting = drop lasting pairs
+
+-- these are the first of the pairs: all that last, and none to all of those that are still due
+abbrev pub AreFirst : ℕ → List Pair → List Pair → Type 0
+AreFirst lasting pairs now = (n : ℕ) × (lasting ≤ n) × (now ≡ take n pairs)
+
+-- a crash leaves the first of the pairs: all that last, and none to all of those that are still due
+abbrev pub IsPartSince : ℕ → List Pair → Option (List Pair) → Type 0
+IsPartSince lasting pairs left = (n : ℕ) × (lasting ≤ n) × (left ≡ Some (take n pairs))
 
 -- a crash leaves these pairs with the first of the new ones behind them, none to all
 abbrev pub IsFirstPart : List Pair → List Pair → Option (List Pair) → Type 0

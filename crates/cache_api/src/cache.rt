@@ -1,5 +1,5 @@
 // A list of pairs, whatever keeps it.
-ghost use Rattle.std.specs.Prelude.{◌≡◌, ◌+◌, ◌<◌, ◌≤◌, ◌∷◌, ◌++◌, [], ℕ, List, length, map, Option, Some, IsTrue, IfOk, IfErr, IfSome, IsErrOf, OnOk};
+ghost use Rattle.std.specs.Prelude.{◌≡◌, ◌+◌, ◌<◌, ◌≤◌, ◌∷◌, ◌++◌, [], ℕ, List, length, map, false, Option, IsTrue, IfOk, IfErr, IfSome, IsErrOf, OnOk};
 ghost use Rattle.rel_path.specs.Causes.{Counts};
 ghost use Rattle.codes.specs.Views.{found_as};
 ghost use Rattle.globs.specs.OwnedFiles.{owns_all};
@@ -8,13 +8,13 @@ ghost use Rattle.cache_api.specs.declared.puts.Put.{Put};
 ghost use Rattle.cache_api.specs.Artifacts.{Artifact, artifact as held, ascends};
 ghost use Rattle.cache_api.specs.Reading.{artifact_in};
 ghost use Rattle.cache_api.specs.Found.{found};
-ghost use Rattle.cache_api.specs.Keys.{text_of, new_pairs};
+ghost use Rattle.cache_api.specs.Keys.{text_of, new_pairs, own_pair};
 ghost use Rattle.cache_api.specs.Hits.{paths_of, paths_ascend, owns_paths, file_spans, span_count, bytes_at};
 ghost use Rattle.cache_api.specs.Moments.{Moment, Leaves};
-ghost use Rattle.cache_api.specs.Pairs.{Pair, pair_for, chosen, IsWithOrWithout, IsFirstPart};
-ghost use Rattle.cache_api.specs.Cache.{CacheState, Keeps, HitsStay, CacheReads, is_fault, StaysWhole, IsFindErr, PairsAfter, AllAfter, ArePut, AreToPut, ample};
+ghost use Rattle.cache_api.specs.Pairs.{Pair, pair_for, chosen, LacksKey, IsPartSince};
+ghost use Rattle.cache_api.specs.Cache.{CacheState, Keeps, HitsStay, CacheReads, is_fault, StaysWhole, IsFindErr, due_in, AllLast, AllAfter, SettledAs, ArePut, AreToPut, ample};
 
-use crate::{Artifact, CacheErr, Hit, Key, NewPair, Put, Puts};
+use crate::{Artifact, CacheErr, Hit, Key, NewPair, OwnKey, Put, Puts};
 use globs::OutSet;
 use rel_path::{Bytes, Files};
 use std::alloc::Global;
@@ -26,6 +26,9 @@ use std::alloc::Global;
 ///
 /// After a call that answered `Failed` or `OutOfMemory` a cache may no longer be whole, and is then to be opened again.
 /// A crash at any moment leaves an image, which stands for some list of pairs or is no cache; `left` and `says` tell.
+///
+/// The first pairs last: each crash leaves them. The others are due, and a crash leaves the first of them, none to all.
+/// `settle` puts what is due, and a pair that is due cannot be looked up till then.
 pub trait Cache {
     /// Whether the pairs are told. It is a fact of the type: a cache over devices in memory tells its pairs, one over
     /// real files does not, and of one that does not nothing is said of its pairs.
@@ -61,14 +64,15 @@ pub trait Cache {
     /// implementation keeps as it is.
     ghost says: { Base → Image → Option (List Pair) };
 
-    /// Where the artifact stands that `find` answers.
+    /// Where the artifact stands that `find` answers. No pair with the key is due.
     fn lookup_keyed(
         &mut self,
         alloc: Global,
         key: Key,
         outs: &OutSet,
     ) -> Result<Option<Hit>, CacheErr>
-        requires { IsTrue (state self.old).whole }
+        requires whole { IsTrue (state self.old).whole }
+        requires due { tells → LacksKey (text_of key) (due_in (state self.old)) }
         ensures found { tells → IfOk result (λ o. found_as (shows self.new) o
             ≡ found artifact_in (text_of key.entry) outs.now (state self.old).pairs) }
         ensures stands { IfOk result (λ o. IfSome o (stands self.new)) }
@@ -113,23 +117,24 @@ pub trait Cache {
         ensures cause { Counts is_fault (state self.old).faults (state self.new).faults result };
 
     /// Adds pairs behind the others, as single puts one after another would, and tells of each whether there was room.
-    /// Want of room is no error of this call. After `OutOfMemory` the pairs are as before, after `Failed` with the first of
-    /// those for which there was room.
+    /// Want of room is no error of this call. After `Ok` all pairs last, also those that were due. After `OutOfMemory`
+    /// the pairs are as before. After `Failed` they are the first of the pairs before and those for which there was
+    /// room, and at least those that lasted.
     fn put_all(&mut self, alloc: Global, pairs: &[NewPair]) -> Result<Puts, CacheErr>
         requires { IsTrue (state self.old).whole }
         ensures outcome { tells
             → IfOk result (λ puts. puts ≡ stores self.old (new_pairs pairs.now)) }
         ensures put { IfOk result (λ puts.
             ArePut (state self.new).room (new_pairs pairs.now) puts) }
-        ensures pairs { tells → AllAfter result (state self.old).pairs
+        ensures pairs { tells → AllAfter result (state self.old).lasting (state self.old).pairs
             (chosen (new_pairs pairs.now) (stores self.old (new_pairs pairs.now)))
             (state self.new).pairs }
+        ensures lasts { tells → OnOk result (AllLast (state self.new)) }
         // whatever it answers
-        ensures full { tells → AreToPut (state self.old).room (new_pairs pairs.now)
-            (stores self.old (new_pairs pairs.now)) }
+        ensures lasting { tells → (state self.old).lasting ≤ (state self.new).lasting }
         ensures left { tells → Leaves moment left self.old self.new
-            (λ image. IsFirstPart (state self.old).pairs
-            (chosen (new_pairs pairs.now) (stores self.old (new_pairs pairs.now)))
+            (λ image. IsPartSince (state self.old).lasting ((state self.old).pairs
+            ++ chosen (new_pairs pairs.now) (stores self.old (new_pairs pairs.now)))
             (says (state self.old).base image)) }
         ensures hits { HitsStay tells stands shows self.old self.new }
         ensures keeps { Keeps (state self.old) (state self.new) }
@@ -137,9 +142,73 @@ pub trait Cache {
         ensures answers { IfErr result IsFindErr }
         ensures cause { Counts is_fault (state self.old).faults (state self.new).faults result };
 
-    /// Where the artifact stands that `find` answers.
-    fn lookup(&mut self, alloc: Global, key: &[u8], outs: &OutSet) -> Result<Option<Hit>, CacheErr>
+    /// Puts what is due. After `Ok` all pairs last, and after `OutOfMemory` they are as before. After `Failed` they are
+    /// the first of those before, and at least those that lasted.
+    fn settle(&mut self, alloc: Global) -> Result<(), CacheErr>
         requires { IsTrue (state self.old).whole }
+        ensures pairs { tells → SettledAs result (state self.old) (state self.new) }
+        // whatever it answers
+        ensures lasting { tells → (state self.old).lasting ≤ (state self.new).lasting }
+        ensures left { tells → Leaves moment left self.old self.new
+            (λ image. IsPartSince (state self.old).lasting (state self.old).pairs
+            (says (state self.old).base image)) }
+        // where nothing was due
+        ensures probes { tells → AllLast (state self.old)
+            → (state self.new).probes ≡ (state self.old).probes }
+        ensures costs { tells → AllLast (state self.old)
+            → (k : List ℕ) → cost self.new k ≡ cost self.old k }
+        ensures hits { HitsStay tells stands shows self.old self.new }
+        ensures keeps { Keeps (state self.old) (state self.new) }
+        ensures whole { StaysWhole result (state self.old).whole (state self.new).whole }
+        ensures answers { IfErr result IsFindErr }
+        ensures cause { Counts is_fault (state self.old).faults (state self.new).faults result };
+
+    /// Whether a pair with this key may still be due.
+    fn is_due(&self, key: &Key) -> bool
+        ensures { tells → result ≡ false → LacksKey (text_of key.now) (due_in (state self.now)) };
+
+    /// Whether it may be used.
+    fn is_whole(&self) -> bool
+        ensures { result ≡ (state self.now).whole };
+
+    /// So many bytes there are for sure, whatever others take till the next pair is put.
+    fn room(&self) -> u64
+        ensures { tells → result ≤ (state self.now).sure };
+
+    /// Puts one pair that is handed over, as `put_all` would, so that a cache which holds it back copies nothing.
+    fn give(&mut self, alloc: Global, key: OwnKey, artifact: Artifact) -> Result<Put, CacheErr>
+        requires { IsTrue (state self.old).whole }
+        ensures outcome { tells → IfOk result (λ put.
+            put ∷ [] ≡ stores self.old (own_pair key artifact ∷ [])) }
+        ensures put { IfOk result (λ put.
+            ArePut (state self.new).room (own_pair key artifact ∷ []) (put ∷ [])) }
+        ensures pairs { tells → AllAfter result (state self.old).lasting (state self.old).pairs
+            (chosen (own_pair key artifact ∷ []) (stores self.old (own_pair key artifact ∷ [])))
+            (state self.new).pairs }
+        // whatever it answers
+        ensures lasting { tells → (state self.old).lasting ≤ (state self.new).lasting }
+        ensures left { tells → Leaves moment left self.old self.new
+            (λ image. IsPartSince (state self.old).lasting ((state self.old).pairs
+            ++ chosen (own_pair key artifact ∷ []) (stores self.old (own_pair key artifact ∷ [])))
+            (says (state self.old).base image)) }
+        ensures hits { HitsStay tells stands shows self.old self.new }
+        ensures keeps { Keeps (state self.old) (state self.new) }
+        ensures whole { StaysWhole result (state self.old).whole (state self.new).whole }
+        ensures answers { IfErr result IsFindErr }
+        ensures cause { Counts is_fault (state self.old).faults (state self.new).faults result }
+    {
+        let pair = NewPair {
+            key: key.as_key(),
+            artifact: &artifact,
+        };
+        let puts = self.put_all(alloc, &[pair])?;
+        Ok(puts.as_slice()[0])
+    }
+
+    /// `lookup_keyed` with the key of a text.
+    fn lookup(&mut self, alloc: Global, key: &[u8], outs: &OutSet) -> Result<Option<Hit>, CacheErr>
+        requires whole { IsTrue (state self.old).whole }
+        requires due { tells → LacksKey key.now (due_in (state self.old)) }
         ensures found { tells → IfOk result (λ o. found_as (shows self.new) o
             ≡ found artifact_in key.now outs.now (state self.old).pairs) }
         ensures stands { IfOk result (λ o. IfSome o (stands self.new)) }
@@ -186,25 +255,28 @@ pub trait Cache {
     }
 
     /// The artifact of the last pair with that key whose value is an artifact all of whose files the task owns, and
-    /// `None` where there is no such pair. The whole key is compared.
+    /// `None` where there is no such pair. The whole key is compared. No pair with the key is due.
     fn find_keyed(
         &mut self,
         alloc: Global,
         key: Key,
         outs: &OutSet,
     ) -> Result<Option<Artifact>, CacheErr>
-        requires { IsTrue (state self.old).whole }
+        requires whole { IsTrue (state self.old).whole }
+        requires due { tells → LacksKey (text_of key) (due_in (state self.old)) }
         ensures found { tells → IfOk result (λ o. found_as held o
             ≡ found artifact_in (text_of key.entry) outs.now (state self.old).pairs) }
         ensures fits { IfOk result (λ o. IfSome o (λ a.
             IsTrue (ascends a.files) × IsTrue (owns_all outs.now a.files))) }
         ensures pairs { tells → (state self.new).pairs ≡ (state self.old).pairs }
+        ensures lasting { tells → (state self.new).lasting ≡ (state self.old).lasting }
         ensures probes { tells → (state self.new).probes
             ≤ (state self.old).probes + cost self.old (text_of key.entry) }
         ensures costs { tells → (k : List ℕ) → cost self.new k ≡ cost self.old k }
         ensures hits { HitsStay tells stands shows self.old self.new }
         ensures left { tells → Leaves moment left self.old self.new
-            (λ image. says (state self.old).base image ≡ Some (state self.old).pairs) }
+            (λ image. IsPartSince (state self.old).lasting (state self.old).pairs
+            (says (state self.old).base image)) }
         ensures keeps { Keeps (state self.old) (state self.new) }
         ensures whole { StaysWhole result (state self.old).whole (state self.new).whole }
         ensures answers { IfErr result IsFindErr }
@@ -223,18 +295,21 @@ pub trait Cache {
         key: &[u8],
         outs: &OutSet,
     ) -> Result<Option<Artifact>, CacheErr>
-        requires { IsTrue (state self.old).whole }
+        requires whole { IsTrue (state self.old).whole }
+        requires due { tells → LacksKey key.now (due_in (state self.old)) }
         ensures found { tells → IfOk result (λ o. found_as held o
             ≡ found artifact_in key.now outs.now (state self.old).pairs) }
         ensures fits { IfOk result (λ o. IfSome o (λ a.
             IsTrue (ascends a.files) × IsTrue (owns_all outs.now a.files))) }
         ensures pairs { tells → (state self.new).pairs ≡ (state self.old).pairs }
+        ensures lasting { tells → (state self.new).lasting ≡ (state self.old).lasting }
         ensures probes { tells → (state self.new).probes
             ≤ (state self.old).probes + cost self.old key.now }
         ensures costs { tells → (k : List ℕ) → cost self.new k ≡ cost self.old k }
         ensures hits { HitsStay tells stands shows self.old self.new }
         ensures left { tells → Leaves moment left self.old self.new
-            (λ image. says (state self.old).base image ≡ Some (state self.old).pairs) }
+            (λ image. IsPartSince (state self.old).lasting (state self.old).pairs
+            (says (state self.old).base image)) }
         ensures keeps { Keeps (state self.old) (state self.new) }
         ensures whole { StaysWhole result (state self.old).whole (state self.new).whole }
         ensures answers { IfErr result IsFindErr }
@@ -244,25 +319,26 @@ pub trait Cache {
     }
 
     /// Adds a pair behind the others: the key, and the text of the artifact. `Full` comes only where the pair could take
-    /// more room than there is. After `Full` and `OutOfMemory` the pairs are as before, after `Failed` as before or with
-    /// the new one. After `Ok` it lasts: each crash leaves it.
-    fn put_keyed(&mut self, alloc: Global, key: Key, artifact: &Artifact) -> Result<(), CacheErr>
+    /// more room than there is. After `Ok` all pairs last. After `Full` and `OutOfMemory` the pairs are as before. After
+    /// `Failed` they are the first of these and the new one, and at least those that lasted.
+    fn put(&mut self, alloc: Global, key: &[u8], artifact: &Artifact) -> Result<(), CacheErr>
         requires { IsTrue (state self.old).whole }
-        ensures pairs { tells → PairsAfter result (state self.old).pairs
-            (pair_for (text_of key.entry) (held artifact.now)) (state self.new).pairs }
+        ensures pairs { tells → AllAfter result (state self.old).lasting (state self.old).pairs
+            (pair_for key.now (held artifact.now) ∷ []) (state self.new).pairs }
         ensures full { IsErrOf result CacheErr.Full
-            → (state self.new).room < ample (pair_for (text_of key.entry) (held artifact.now)) }
+            → (state self.new).room < ample (pair_for key.now (held artifact.now)) }
+        ensures lasts { tells → OnOk result (AllLast (state self.new)) }
+        ensures lasting { tells → (state self.old).lasting ≤ (state self.new).lasting }
         ensures left { tells → Leaves moment left self.old self.new
-            (λ image. IsWithOrWithout (state self.old).pairs
-            (pair_for (text_of key.entry) (held artifact.now)) (says (state self.old).base image)) }
-        ensures lasts { tells → OnOk result ((image : Image) → left self.new (moment self.new) image
-            → says (state self.old).base image ≡ Some ((state self.old).pairs
-            ++ pair_for (text_of key.entry) (held artifact.now) ∷ [])) }
+            (λ image. IsPartSince (state self.old).lasting
+            ((state self.old).pairs ++ pair_for key.now (held artifact.now) ∷ [])
+            (says (state self.old).base image)) }
         ensures hits { HitsStay tells stands shows self.old self.new }
         ensures keeps { Keeps (state self.old) (state self.new) }
         ensures whole { StaysWhole result (state self.old).whole (state self.new).whole }
         ensures cause { Counts is_fault (state self.old).faults (state self.new).faults result }
     {
+        let key = Key::new(key);
         let puts = self.put_all(alloc, &[NewPair { key, artifact }])?;
         match puts.as_slice() {
             [Put::Full] => Err(CacheErr::Full),
@@ -270,32 +346,23 @@ pub trait Cache {
         }
     }
 
-    /// `put_keyed` with the key of a text.
-    fn put(&mut self, alloc: Global, key: &[u8], artifact: &Artifact) -> Result<(), CacheErr>
-        requires { IsTrue (state self.old).whole }
-        ensures pairs { tells → PairsAfter result (state self.old).pairs
-            (pair_for key.now (held artifact.now)) (state self.new).pairs }
-        ensures full { IsErrOf result CacheErr.Full
-            → (state self.new).room < ample (pair_for key.now (held artifact.now)) }
-        ensures left { tells → Leaves moment left self.old self.new
-            (λ image. IsWithOrWithout (state self.old).pairs
-            (pair_for key.now (held artifact.now)) (says (state self.old).base image)) }
-        ensures lasts { tells → OnOk result ((image : Image) → left self.new (moment self.new) image
-            → says (state self.old).base image ≡ Some ((state self.old).pairs
-            ++ pair_for key.now (held artifact.now) ∷ [])) }
-        ensures hits { HitsStay tells stands shows self.old self.new }
-        ensures keeps { Keeps (state self.old) (state self.new) }
-        ensures whole { StaysWhole result (state self.old).whole (state self.new).whole }
-        ensures cause { Counts is_fault (state self.old).faults (state self.new).faults result }
-    {
-        self.put_keyed(alloc, Key::new(key), artifact)
-    }
-
     /// A hit that may be read has the paths of its artifact.
     ghost paths: { (c : Self) (hit : Hit) → tells → stands c hit
         → map (λ file. file.0) (shows c hit).1 ≡ paths_of hit };
 
-    /// While the cache is whole, a crash since this moment leaves its pairs.
+    /// No more pairs last than there are.
+    ghost within: { (c : Self) → tells → (state c).lasting ≤ length (state c).pairs };
+
+    /// There is as much room as is sure.
+    ghost spare: { (c : Self) → tells → (state c).sure ≤ (state c).room };
+
+    /// Where a pair is not to be put, there is less room than it may want.
+    ghost to_put: { (c : Self) (pairs : List Pair) → tells → IsTrue (state c).whole
+        → AreToPut (state c) pairs (stores c pairs) };
+
+    /// While the cache is whole, a crash since this moment leaves all pairs that last, and the first of those that are
+    /// due.
     ghost at_rest: { (c : Self) (image : Image) → tells → IsTrue (state c).whole
-        → left c (moment c) image → says (state c).base image ≡ Some (state c).pairs };
+        → left c (moment c) image
+        → IsPartSince (state c).lasting (state c).pairs (says (state c).base image) };
 }

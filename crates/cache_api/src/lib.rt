@@ -18,10 +18,14 @@
 //!
 //! [`Cache`] is the trait over which runs are proved. `find` answers the artifact of the last
 //! pair with that key whose value is an artifact all of whose files the task owns, `lookup` where
-//! that stands (a [`Hit`]), and both `None` without such a pair. `put` adds a pair behind the
-//! others. Errors are [`CacheErr`]: `Full` where a single pair does not fit (the pairs are as
-//! before), `Failed` where a device failed, and `OutOfMemory`. After the last two the cache may
-//! have to be opened again.
+//! that stands (a [`Hit`]), and both `None` without such a pair. `put_all` adds pairs behind the
+//! others, `put` one, and `give` one that is handed over. The first pairs last, whatever crashes;
+//! of the others, which are due, a crash leaves the first, none to all. Only `give` leaves a pair
+//! due, `settle` puts what is due, and `is_due` tells whether to settle before a look-up.
+//!
+//! Errors are [`CacheErr`]: `Full` where a single pair does not fit (the pairs are as before),
+//! `Failed` where a device failed, and `OutOfMemory`. After the last two the cache may have to be
+//! opened again.
 //!
 //! `specs/` defines the text of an artifact (`Artifacts`), how bytes are read as one (`Reading`),
 //! what a look-up finds (`Found`), what is said of hits (`Hits`), the clock (`Moments`), and what
@@ -35,12 +39,14 @@ mod hit;
 mod key;
 mod puts;
 mod reading;
+mod room;
 mod writing;
 
 pub use artifact::{Artifact, artifact_law, owns_all};
 pub use cache::Cache;
 pub use error::CacheErr;
 pub use hit::{Hit, HitFile, HitFiles};
-pub use key::Key;
+pub use key::{Key, OwnKey};
 pub use puts::{NewPair, Put, Puts};
 pub use reading::path_in;
+pub use room::{ROOM_BESIDE, ROOM_FOR_A_BYTE, ample_room};

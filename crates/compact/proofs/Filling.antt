@@ -8,7 +8,7 @@ use Rattle.store_dev.specs.declared.device.StoreDevice.{Ghosts}
 use Rattle.cache_api.specs.declared.puts.Put.TheVariants.{Stored}
 use Rattle.cache_api.specs.Moments.{Leaves}
 use Rattle.cache_api.specs.Pairs as cache
-use Rattle.cache_api.specs.Pairs.{Pair, IsFirstPart}
+use Rattle.cache_api.specs.Pairs.{Pair, IsPartSince}
 use Rattle.cache_api.specs.Memory.{capped}
 use Rattle.record_log.specs.Kinds.{Entry}
 use Rattle.record_log.specs.Frames.{opened}
@@ -21,7 +21,7 @@ use Rattle.artifact_store.specs.Outcomes.{outcomes}
 use Rattle.artifact_store.specs.Pairs.{told_as}
 use Rattle.artifact_store.specs.Laws.{images_told, at_device}
 use Rattle.artifact_store.specs.Store.{device_of, state_of, frames_of, moment_of, left_of}
-use Rattle.artifact_store.proofs.Fits.{texts_put, outcomes_fit, kept_chosen}
+use Rattle.artifact_store.specs.Fits.{texts_put, outcomes_fit, kept_chosen}
 use Rattle.compact.specs.Room.{free_behind, lacking, AllFit}
 use Rattle.compact.specs.Sources.{PutsOn, IsOfGeneration}
 use Rattle.compact.proofs.Fitting.{all_true, fit_all, kept_all, lacking_all, lacking_not}
@@ -80,31 +80,31 @@ module _ {S : Type 0} {G : Ghosts S} where
   pub puts_put : (old new : Store S G) (chosen : List Pair)
       → (state_of new).base ≡ (state_of old).base
       → (G.tells → Leaves moment_of left_of old new
-      (λ image. IsFirstPart (state_of old).pairs chosen (told_as (state_of old).base image)))
+      (λ image. IsPartSince (state_of old).lasting ((state_of old).pairs ++ chosen) (told_as (state_of old).base image)))
       → PutsOn old new
   puts_put old new chosen base left = record {
     base = base;
     images = λ told.
         leaves_more G.moment G.images_since (device_of old) (device_of new)
-        (λ c. IsFirstPart (state_of old).pairs chosen (told_as (state_of old).base c))
+        (λ c. IsPartSince (state_of old).lasting ((state_of old).pairs ++ chosen) (told_as (state_of old).base c))
         (IsOfGeneration (state_of old).base)
-        (at_device old new (λ c. IsFirstPart (state_of old).pairs chosen (told_as (state_of old).base c)) (left told))
-        (λ c (n, le, is). ((state_of old).pairs ++ take n chosen, is));
+        (at_device old new (λ c. IsPartSince (state_of old).lasting ((state_of old).pairs ++ chosen) (told_as (state_of old).base c)) (left told))
+        (λ c (n, at, is). (take n ((state_of old).pairs ++ chosen), is));
   }
 
   -- it was read
   pub puts_read : (old new : Store S G) → (state_of new).base ≡ (state_of old).base
       → (G.tells → Leaves moment_of left_of old new
-      (λ image. told_as (state_of old).base image ≡ Some (state_of old).pairs))
+      (λ image. IsPartSince (state_of old).lasting (state_of old).pairs (told_as (state_of old).base image)))
       → PutsOn old new
   puts_read old new base left = record {
     base = base;
     images = λ told.
         leaves_more G.moment G.images_since (device_of old) (device_of new)
-        (λ c. told_as (state_of old).base c ≡ Some (state_of old).pairs)
+        (λ c. IsPartSince (state_of old).lasting (state_of old).pairs (told_as (state_of old).base c))
         (IsOfGeneration (state_of old).base)
-        (at_device old new (λ c. told_as (state_of old).base c ≡ Some (state_of old).pairs) (left told))
-        (λ c is. ((state_of old).pairs, is));
+        (at_device old new (λ c. IsPartSince (state_of old).lasting (state_of old).pairs (told_as (state_of old).base c)) (left told))
+        (λ c (n, at, is). (take n (state_of old).pairs, is));
   }
 
   -- one after the other

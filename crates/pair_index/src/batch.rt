@@ -1,5 +1,5 @@
 // Keys that were read and are not yet hashed.
-ghost use Rattle.std.specs.Prelude.{◌≡◌, ◌≤◌, ◌<◌, ◌+◌, map, length, nat_le, IsTrue, IfOk, IfErr, OnOk, MatchOption};
+ghost use Rattle.std.specs.Prelude.{◌≡◌, ◌≤◌, ◌<◌, ◌+◌, ◌&&◌, ◌||◌, map, length, nat_le, IsTrue, IfOk, IfErr, OnOk, MatchOption};
 ghost use Rattle.sha2.specs.Sha256.{sha256};
 ghost use Rattle.rel_path.specs.Causes.{Counts};
 ghost use Rattle.cache_api.specs.Cache.{is_fault, IsFindErr};
@@ -17,8 +17,14 @@ use sha_lanes::digests;
 use std::alloc::{AllocError, Global};
 use store_dev::StoreDevice;
 
-/// A batch whose texts have so many bytes is full: it has many texts to hash side by side, and takes little memory.
+/// As many texts as are hashed side by side: a batch of fewer would be hashed one by one.
+const BATCH_TEXTS: usize = 4;
+
+/// A batch of enough texts that has so many bytes is full: more bytes at once are not hashed faster.
 const BATCH_BYTES: usize = 4 * 1024 * 1024;
+
+/// A batch that has so many bytes is full, however few its texts are: so it takes little memory.
+const MOST_BATCH_BYTES: usize = 32 * 1024 * 1024;
 
 /// The keys of the pairs in frames one after another, with their texts where they are to be hashed.
 #[derive(Drop)]
@@ -28,7 +34,9 @@ pub(crate) struct Batch {
     pub(crate) keys: Vec<KeyText>,
     // The number of the frame behind those that were read.
     pub(crate) next: u64,
-    // How many bytes the texts have.
+    // How many texts there are.
+    texts: usize,
+    // How many bytes they have.
     bytes: usize,
 }
 
@@ -78,6 +86,7 @@ impl Batch {
             numbers: Vec::new(alloc),
             keys: Vec::new(alloc),
             next,
+            texts: 0,
             bytes: 0,
         }
     }
@@ -114,9 +123,10 @@ impl Batch {
     }
 
     fn is_full(&self) -> bool
-        ensures { result ≡ nat_le BATCH_BYTES self.now.bytes }
+        ensures { result ≡ ((nat_le BATCH_TEXTS self.now.texts && nat_le BATCH_BYTES self.now.bytes)
+            || nat_le MOST_BATCH_BYTES self.now.bytes) }
     {
-        self.bytes >= BATCH_BYTES
+        self.texts >= BATCH_TEXTS && self.bytes >= BATCH_BYTES || self.bytes >= MOST_BATCH_BYTES
     }
 
     /// Reads the next frame, and takes in its key if it stands for a pair.
@@ -157,6 +167,9 @@ impl Batch {
         ensures keys { OnOk result (self.new.keys.items ≡ self.old.keys.items ++ key ∷ []) }
         ensures next { self.new.next ≡ self.old.next }
     {
+        if key.text.is_some() {
+            self.texts = self.texts.saturating_add(1);
+        }
         self.bytes = self.bytes.saturating_add(text_bytes(&key));
         self.numbers.push(self.next)?;
         self.keys.push(key)?;

@@ -3,7 +3,7 @@ use Rattle.std.specs.Prelude.{◌≡◌, ◌≤◌, ◌+◌, ◌*◌, List, ◌+
 use Rattle.codes.specs.Codes.{AreBytes}
 use Rattle.record_log.specs.Kinds.{Entry}
 use Rattle.pair_frames.specs.Runs.{Run, flat, contents_in}
-use Rattle.cache_api.specs.Cache.{ROOM_FOR_A_BYTE}
+use Rattle.cache_api.specs.declared.room.TheConstants.{ROOM_FOR_A_BYTE}
 use Rattle.pair_frames.specs.Puts.{blobs_for}
 use Rattle.pair_frames.specs.Cuts.{closed, open_bytes}
 use Rattle.pair_writer.specs.declared.staged.Staged.{Staged}

@@ -12,10 +12,11 @@ use Rattle.cache_api.specs.declared.hit.Hit.{Hit}
 use Rattle.cache_api.specs.declared.puts.Puts.{Puts}
 use Rattle.cache_api.specs.Cache.{CacheReads, HitsStay, Keeps, ArePut, AllAfter, StaysWhole}
 use Rattle.cache_api.specs.Cache.{is_fault, IsFindErr}
-use Rattle.cache_api.specs.Moments.{Moment, NoLater, Leaves, started}
+use Rattle.cache_api.specs.Moments.{Moment, NoLater, Leaves, started, leaves_more}
 use Rattle.cache_api.specs.Calls.{keeps_none, stay_none}
 use Rattle.relay_store.specs.Rests.{OnlyNow, rest_in}
-use Rattle.cache_api.specs.Pairs.{Pair, chosen, IsFirstPart}
+use Rattle.cache_api.specs.Pairs.{Pair, chosen, IsFirstPart, IsPartSince}
+use Rattle.cache_api.proofs.Firsts.{first_added, part_added}
 use Rattle.pair_frames.specs.Puts.{added}
 use Rattle.artifact_store.specs.declared.store.Store.{Store}
 use Rattle.artifact_store.specs.Pairs.{told_as}
@@ -30,20 +31,20 @@ use Rattle.relay_store.specs.Parts.{IsPutInto, into, MayGrow}
 use Rattle.relay_store.proofs.Spaces.{chosen_all}
 
 grown_by : (result : Result Puts CacheErr) (before news now : List Pair)
-    → AllAfter result before news now → (n : ℕ) × (n ≤ length news) × (now ≡ before ++ take n news)
+    → AllAfter result (length before) before news now → (n : ℕ) × (n ≤ length news) × (now ≡ before ++ take n news)
 grown_by (Ok puts) before news now after = (
   length news,
   omega arith,
   after ∙ ap (λ (l : List Pair). before ++ l)
       (sym (take_all (length news) news (omega arith))),
 )
-grown_by (Err Failed) before news now after = after
+grown_by (Err Failed) before news now after = first_added before news now after
 grown_by (Err Full) before news now after = (0, omega arith, after ∙ sym (append-nil before))
 grown_by (Err OutOfMemory) before news now after =
     (0, omega arith, after ∙ sym (append-nil before))
 
 all_by : (result : Result Puts CacheErr) (before news now : List Pair)
-    → AllAfter result before news now
+    → AllAfter result (length before) before news now
     → OnOk result (now ≡ before ++ news)
 all_by (Ok puts) before news now after = after
 all_by (Err e) before news now after = tt
@@ -78,7 +79,9 @@ module _ {S : Type 0} {G : Ghosts S} where
   record Asked {T : Type 0} (o p : Option (Store S G)) (result : Result T CacheErr) : Type 0 where
     pub pairs : G.tells → (state_in p).pairs ≡ (state_in o).pairs
     pub cost_same : G.tells → (key : List ℕ) → cost_in p key ≡ cost_in o key
-    pub left : G.tells → Left o p (λ c. told_as (state_in o).base c ≡ Some (state_in o).pairs)
+    pub room : G.tells → (state_in p).room ≡ (state_in o).room
+    pub left : G.tells → Left o p (λ c. IsPartSince (length (state_in o).pairs) (state_in o).pairs
+        (told_as (state_in o).base c))
     pub stays : Stays o p
     pub given : Answers o p result
 
@@ -142,6 +145,8 @@ module _ {S : Type 0} {G : Ghosts S} where
     read = record {
       reads = record {
         pairs = x.pairs;
+        lasting = λ told. ap (λ (l : List Pair). length l) (x.pairs told);
+        sure = x.room;
         cost_same = x.cost_same;
         hits = record { stays = x.stays.stays; same = x.stays.same };
         left = x.left;
@@ -192,6 +197,7 @@ module _ {S : Type 0} {G : Ghosts S} where
       let some : Asked (Some a) (Some b) result = record {
         pairs = reads.pairs;
         cost_same = reads.cost_same;
+        room = reads.sure;
         left = reads.left;
         stays = stays_some a b reads.hits reads.keeps;
         given = record { whole = whole; answers = answers; cause = cause };
@@ -216,11 +222,11 @@ module _ {S : Type 0} {G : Ghosts S} where
       → IfOk result (ArePut (store.state_of b).room news)
       → (G.tells → OnOk result (store.frames_of b ≡ store.frames_of a
       ++ added (store.state_of a).room (store.frames_of a) news))
-      → (G.tells → AllAfter result (store.state_of a).pairs (chosen news (store.stores a news))
-      (store.state_of b).pairs)
+      → (G.tells → AllAfter result (store.state_of a).lasting (store.state_of a).pairs
+      (chosen news (store.stores a news)) (store.state_of b).pairs)
       → (G.tells → Leaves store.moment_of store.left_of a b
-      (λ image. IsFirstPart (store.state_of a).pairs (chosen news (store.stores a news))
-      (told_as (store.state_of a).base image)))
+      (λ image. IsPartSince (store.state_of a).lasting ((store.state_of a).pairs
+      ++ chosen news (store.stores a news)) (told_as (store.state_of a).base image)))
       → HitsStay G.tells store.stands store.shows a b
       → Keeps (store.state_of a) (store.state_of b)
       → StaysWhole result (store.state_of a).whole (store.state_of b).whole
@@ -234,15 +240,16 @@ module _ {S : Type 0} {G : Ghosts S} where
       (fit told) in
       let all : G.tells → chosen news (store.stores a news) ≡ news =
       λ told. ap (chosen news) (fits told) ∙ chosen_all news in
-      let after : G.tells → AllAfter result (store.state_of a).pairs news
+      let after : G.tells → AllAfter result (store.state_of a).lasting (store.state_of a).pairs news
       (store.state_of b).pairs =
-      λ told. subst (λ (l : List Pair). AllAfter result (store.state_of a).pairs l
-      (store.state_of b).pairs) (all told) (pairs told) in
+      λ told. subst (λ (l : List Pair). AllAfter result (store.state_of a).lasting
+      (store.state_of a).pairs l (store.state_of b).pairs) (all told) (pairs told) in
       let some : PutIn (Some a) (Some b) news result = record {
         pairs = λ told. grown_by result _ news _ (after told);
-        left = λ told. subst (λ (l : List Pair). Leaves store.moment_of store.left_of a b
-            (λ image. IsFirstPart (store.state_of a).pairs l
-            (told_as (store.state_of a).base image))) (all told) (left told);
+        left = λ told. leaves_more store.moment_of store.left_of a b _ _ (left told)
+            (λ image part. subst (λ (l : List Pair). IsFirstPart (store.state_of a).pairs l
+            (told_as (store.state_of a).base image)) (all told)
+            (part_added (store.state_of a).pairs (chosen news (store.stores a news)) _ part));
         stored = λ told. stored_by result a news (fits told) (outcome told);
         all = λ told. all_by result _ news _ (after told);
         frames = frames;

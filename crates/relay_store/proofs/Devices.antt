@@ -16,7 +16,8 @@ use Rattle.cache_api.specs.declared.puts.Puts.{Puts}
 use Rattle.cache_api.specs.Cache.{ArePut}
 use Rattle.cache_api.specs.Calls.{stay_none, stay_then, keeps_none, keeps_then}
 use Rattle.cache_api.specs.Moments.{Leaves}
-use Rattle.cache_api.specs.Pairs.{Pair, chosen, IsFirstPart}
+use Rattle.cache_api.specs.Pairs.{Pair, chosen, IsFirstPart, IsPartSince}
+use Rattle.cache_api.proofs.Firsts.{all_left}
 use Rattle.artifact_store.specs.declared.store.Store.{Store}
 use Rattle.artifact_store.specs.Pairs.{told_as}
 use Rattle.cli_words.specs.declared.order.Access.{Access}
@@ -32,7 +33,8 @@ use Rattle.relay_store.specs.Devices.{IsOnlyRead, IsGiven, HasAll, HasTaken, Ans
 use Rattle.relay_store.specs.Devices.{Gives, HasPut}
 use Rattle.relay_store.proofs.Asked.{on_ok}
 use Rattle.relay_store.proofs.Putting.{first_more, first_then, take_both, both_ok}
-use Rattle.relay_store.proofs.Spaces.{even, puts_append, chosen_append, chosen_all}
+use Rattle.relay_store.specs.Rooms.{even}
+use Rattle.relay_store.proofs.Spaces.{puts_append, chosen_append, chosen_all}
 
 -- ---- from a part to its store
 
@@ -52,8 +54,11 @@ module _ {S : Type 0} {G : Ghosts S} where
   read_store old new x = record {
     pairs = x.reads.pairs;
     cost_same = x.reads.cost_same;
-    left = λ told. one_clock old new
-        (λ c. told_as (state_in old.store).base c ≡ Some (pairs_of old)) (x.reads.left told);
+    left = λ told. device.leaves_more moment_in images_in old.store new.store
+        (λ c. IsPartSince (length (pairs_of old)) (pairs_of old)
+        (told_as (state_in old.store).base c))
+        (λ c. told_as (state_in old.store).base c ≡ Some (pairs_of old))
+        (one_clock old new _ (x.reads.left told)) (λ c part. all_left _ _ part);
     hits = record { stays = x.reads.hits.stays; same = x.reads.hits.same };
     keeps = record {
       base = ap (λ (b : PartBase G.tells). b.generation) x.reads.keeps.base;

@@ -4,7 +4,6 @@ use Rattle.std.proofs.Common.{refl, ◌∙◌, ap}
 use Rattle.std.specs.Prelude.{IsTrue}
 use Rattle.std.proofs.lemmas.Bool.{and_parts}
 use Rattle.store_dev.specs.declared.device.StoreDevice.{Ghosts}
-use Rattle.codes.specs.Codes.{Each}
 use Rattle.cache_api.specs.declared.puts.Put.TheVariants.{Stored, Full}
 use Rattle.cache_api.specs.Pairs.{Pair, chosen}
 use Rattle.pair_frames.specs.Puts.{added}
@@ -64,18 +63,6 @@ pub room_second : (p q : Bool) (a b : ℕ) → q ≡ true → room_by p q a b �
 room_second true true a b is = omega arith
 room_second true false a b is = absurd (cc)
 room_second false q a b is = omega arith
-
-each_by : (p q : Bool) (a b : Space) (n : ℕ) → n ≤ room_by p q a.room b.room
-    → Each (λ (space : Space). n ≤ space.room) ((cond p (a ∷ []) []) ++ (cond q (b ∷ []) []))
-each_by true true a b n le = (omega (arith, le), (omega (arith, le), tt))
-each_by true false a b n le = (le, tt)
-each_by false true a b n le = (le, tt)
-each_by false false a b n le = tt
-
-pub each_space : {S R : Type 0} {G : Ghosts S} {H : Ghosts R} (r : Relay S R G H) (n : ℕ)
-    → n ≤ (state_of r).room → Each (λ (space : Space). n ≤ space.room) (spaces r)
-each_space r n le = each_by r.access.local_puts r.access.second_puts (space_of r.local)
-    (space_of r.second) n le
 
 module _ {S R : Type 0} {G : Ghosts S} {H : Ghosts R} (a b : Relay S R G H) (pair : Pair) where
   spaces_are : b.access ≡ a.access

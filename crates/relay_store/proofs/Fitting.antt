@@ -8,6 +8,7 @@ use Rattle.store_dev.specs.declared.device.StoreDevice.{Ghosts}
 use Rattle.cache_api.specs.declared.puts.Put.TheVariants.{Stored}
 use Rattle.cache_api.specs.Pairs.{Pair}
 use Rattle.cache_api.specs.Cache.{ample}
+use Rattle.cache_api.proofs.Firsts.{none_due}
 use Rattle.record_log.specs.Kinds.{Entry}
 use Rattle.record_log.specs.Frames.{opened}
 use Rattle.record_log.specs.Texts.{opened_append}
@@ -16,7 +17,7 @@ use Rattle.pair_writer.specs.Putting.{put_of}
 use Rattle.artifact_store.specs.declared.store.Store.{Store}
 use Rattle.artifact_store.specs.Outcomes.{are_texts, outcomes}
 use Rattle.artifact_store.specs.Store as store
-use Rattle.artifact_store.proofs.Fits as fits
+use Rattle.artifact_store.specs.Fits.{are_to_put}
 use Rattle.relay_store.specs.declared.part.Part.{Part}
 use Rattle.relay_store.specs.Access.{is_there}
 use Rattle.relay_store.specs.Stores.{state_in, frames_in, stores_in}
@@ -58,8 +59,8 @@ ample_in : {S : Type 0} {G : Ghosts S} (o : Option (Store S G)) (pairs : List Pa
     → sum_by ample pairs ≤ (state_in o).room → stores_in o pairs ≡ all_stored pairs
 ample_in None pairs there le = absurd (cc)
 ample_in (Some s) pairs there le =
-    stored_all (store.stores s pairs) pairs (store.state_of s).room le
-    (fits.are_to_put (store.state_of s).room (store.frames_of s) pairs)
+    stored_all (store.state_of s) (store.stores s pairs) pairs
+    (none_due (store.state_of s).pairs) le (are_to_put s pairs)
 
 pub fit_ample : {S : Type 0} {G : Ghosts S} (part : Part S G) (pairs : List Pair)
     → is_there part.store ≡ true

@@ -13,7 +13,8 @@ use Rattle.cache_api.specs.declared.puts.Puts.{Puts}
 use Rattle.cache_api.specs.Cache.{AllAfter, Keeps, StaysWhole, is_fault, IsFindErr}
 use Rattle.cache_api.specs.Calls.{stay_none, stay_then, keeps_none, keeps_then}
 use Rattle.cache_api.specs.Moments.{Leaves, started, leaves_more, leaves_then}
-use Rattle.cache_api.specs.Pairs.{Pair, IsFirstPart}
+use Rattle.cache_api.specs.Pairs.{Pair, IsFirstPart, IsPartSince}
+use Rattle.cache_api.proofs.Firsts.{all_left, added_part}
 use Rattle.artifact_store.specs.Pairs.{told_as}
 use Rattle.relay_store.specs.declared.part.Part.{Part}
 use Rattle.relay_store.specs.declared.relay.Relay.{Relay}
@@ -203,14 +204,16 @@ module _ {S R : Type 0} {G : Ghosts S} {H : Ghosts R} where
               ∙ sym (append-nil (later_of old)),
         );
         left = λ told. relay_leaves old new
-            (λ c. told_as (state_in old.local.store).base c ≡ Some (pairs_of old.local))
-            (λ c. told_as (state_in old.second.store).base c ≡ Some (pairs_of old.second))
+            (λ c. IsPartSince (length (pairs_of old.local)) (pairs_of old.local)
+            (told_as (state_in old.local.store).base c))
+            (λ c. IsPartSince (length (pairs_of old.second)) (pairs_of old.second)
+            (told_as (state_in old.second.store).base c))
             (λ image. IsFirstPart (state_of old).pairs [] (says (base_of old) image))
             keeps.base (xl.reads.left told.0) (xs.reads.left told.1)
-            (λ t u c noted is. none_more
-            (local_says old whole t u (told_as (state_in old.local.store).base c) is noted))
-            (λ t u c noted is. none_more
-            (second_says old whole t u (told_as (state_in old.second.store).base c) is noted));
+            (λ t u c noted part. none_more (local_says old whole t u
+            (told_as (state_in old.local.store).base c) (all_left _ _ part) noted))
+            (λ t u c noted part. none_more (second_says old whole t u
+            (told_as (state_in old.second.store).base c) (all_left _ _ part) noted));
         hits = relay_hits old new xl.reads.hits xs.reads.hits;
         keeps = keeps;
         whole = stays;
@@ -420,11 +423,30 @@ moved_in A T Q (Err e) P to = tt
 -- ---- what is there after all
 
 pub all_after : {T : Type 0} (r : Result T CacheErr) (before added now : List Pair)
-    → OnOk r (now ≡ before ++ added) → OnErr r (now ≡ before) → AllAfter r before added now
+    → OnOk r (now ≡ before ++ added) → OnErr r (now ≡ before)
+    → AllAfter r (length before) before added now
 all_after (Ok v) before added now is same = is
-all_after (Err Failed) before added now is same = (0, omega arith, same ∙ sym (append-nil before))
+all_after (Err Failed) before added now is same =
+    (length before, omega arith, same ∙ sym (take_at before added (length before) refl))
 all_after (Err Full) before added now is same = same
 all_after (Err OutOfMemory) before added now is same = same
+
+-- a crash leaves of the relay as a cache what it leaves of a call that puts these
+pub put_left : {S R : Type 0} {G : Ghosts S} {H : Ghosts R} (old new : Relay S R G H)
+    (added : List Pair)
+    → Leaves moment_of left_of old new
+    (λ image. IsFirstPart (state_of old).pairs added (says (base_of old) image))
+    → Leaves moment_of left_of old new (λ image. IsPartSince (state_of old).lasting
+    ((state_of old).pairs ++ added) (says (base_of old) image))
+put_left old new added leaves = leaves_more moment_of left_of old new _ _ leaves
+    (λ image part. added_part (state_of old).pairs added (says (base_of old) image) part)
+
+-- there are no fewer then
+pub no_fewer : {T : Type 0} (r : Result T CacheErr) (before added now : List Pair)
+    → OnOk r (now ≡ before ++ added) → OnErr r (now ≡ before) → length before ≤ length now
+no_fewer (Ok v) before added now is same =
+    omega (arith, ap length is, length-append before added)
+no_fewer (Err e) before added now is same = omega (arith, ap length same)
 
 -- ---- the second store leads
 

@@ -1,6 +1,7 @@
 -- From what calls leave of the two stores to what they leave of the relay.
 use Rattle.std.proofs.Common.{◌≡◌, ◌⊎◌, inl, inr, ⊎_elim, ℕ, ◌+◌, ◌≤◌, Bool, true, false, cond}
-use Rattle.std.proofs.Common.{List, [], ◌++◌, take, drop, Some, refl, sym, ◌∙◌, ap, subst, arith}
+use Rattle.std.proofs.Common.{List, [], ◌++◌, length, take, drop, refl, sym, ◌∙◌, ap, subst}
+use Rattle.std.proofs.Common.{arith}
 use Rattle.std.specs.Prelude.{◌&&◌, ◌==◌, IsTrue}
 use Rattle.std.proofs.lemmas.Bool.{eq-eqb}
 use Rattle.store_dev.specs.declared.device.StoreDevice.{Ghosts}
@@ -12,7 +13,8 @@ use Rattle.cache_api.specs.Reading.{artifact_in}
 use Rattle.globs.specs.declared.out_set.OutSet.{OutSet}
 use Rattle.std.proofs.lemmas.List.{take_all}
 use Rattle.cache_api.specs.Moments.{Moment, NoLater, Leaves}
-use Rattle.cache_api.specs.Pairs.{Pair}
+use Rattle.cache_api.specs.Pairs.{Pair, IsPartSince}
+use Rattle.cache_api.proofs.Firsts.{all_left, all_part}
 use Rattle.artifact_store.specs.Pairs.{told_as}
 use Rattle.cli_words.specs.declared.order.Access.{Access}
 use Rattle.relay_store.specs.declared.part.Part.{Part}
@@ -121,27 +123,36 @@ module _ {S R : Type 0} {G : Ghosts S} {H : Ghosts R} (old new : Relay S R G H) 
         → CacheReads (G.tells × H.tells) state_of cost_of stands shows moment_of left_of says old
         new
     relay_reads added whole lf sf xl xs = record {
-      pairs = λ told. λ i.
-          firsts (access i).local_puts (take (lf i) (xl.pairs told.0 i))
-          (take (sf i) (xs.pairs told.1 i))
-          ++ take (added i) (later (access i).local_puts (drop (lf i) (xl.pairs told.0 i))
-          (drop (sf i) (xs.pairs told.1 i)));
+      pairs = pairs;
+      lasting = λ told. ap (λ (l : List Pair). length l) (pairs told);
+      sure = λ told. λ i. room_by (access i).local_puts (access i).second_puts
+          (xl.sure told.0 i) (xs.sure told.1 i);
       cost_same = λ told key. λ i. xl.cost_same told.0 key i + xs.cost_same told.1 key i;
       hits = relay_hits xl.hits xs.hits;
       left = λ told. relay_leaves
-          (λ c. told_as (state_in old.local.store).base c ≡ Some (pairs_of old.local))
-          (λ c. told_as (state_in old.second.store).base c ≡ Some (pairs_of old.second))
-          (λ image. says (base_of old) image ≡ Some (state_of old).pairs)
+          (λ c. IsPartSince (length (pairs_of old.local)) (pairs_of old.local)
+          (told_as (state_in old.local.store).base c))
+          (λ c. IsPartSince (length (pairs_of old.second)) (pairs_of old.second)
+          (told_as (state_in old.second.store).base c))
+          (λ image. IsPartSince (state_of old).lasting (state_of old).pairs
+          (says (base_of old) image))
           keeps.base (xl.left told.0) (xs.left told.1)
-          (λ t u c noted is. local_says old whole t u (told_as (state_in old.local.store).base c)
-          is noted)
-          (λ t u c noted is. second_says old whole t u
-          (told_as (state_in old.second.store).base c) is noted);
+          (λ t u c noted part. all_part _ _ (local_says old whole t u
+          (told_as (state_in old.local.store).base c) (all_left _ _ part) noted))
+          (λ t u c noted part. all_part _ _ (second_says old whole t u
+          (told_as (state_in old.second.store).base c) (all_left _ _ part) noted));
       keeps = keeps;
     }
       where
         keeps : Keeps (state_of old) (state_of new)
         keeps = relay_keeps xl.keeps xs.keeps
+
+        pairs : G.tells × H.tells → (state_of new).pairs ≡ (state_of old).pairs
+        pairs told = λ i.
+            firsts (access i).local_puts (take (lf i) (xl.pairs told.0 i))
+            (take (sf i) (xs.pairs told.1 i))
+            ++ take (added i) (later (access i).local_puts (drop (lf i) (xl.pairs told.0 i))
+            (drop (sf i) (xs.pairs told.1 i)))
 
 -- ---- a store that is not called
 
@@ -151,7 +162,7 @@ pub unread : {S : Type 0} {G : Ghosts S} → OnlyNow G → (p : Part S G)
 unread only p whole = record {
   reads = reads_none _ part.state_of part.cost_of part.stands part.shows part.moment_of
       part.left_of part.says_of p
-      (λ told image left. rest_in only p.store told whole image left);
+      (λ told image left. all_part _ _ (rest_in only p.store told whole image left));
   first = refl;
   there = refl;
 }

@@ -1,89 +1,17 @@
--- The room that is wanting where a pair is not put.
-use Rattle.std.proofs.Common.{◌≡◌, ℕ, ◌+◌, ◌<◌, ◌≤◌, suc, Bool, true, false, cond, List, [], ◌∷◌}
+-- Where pairs find room, one behind another.
+use Rattle.std.proofs.Common.{◌≡◌, ℕ, ◌+◌, ◌≤◌, Bool, true, false, cond, List, [], ◌∷◌}
 use Rattle.std.proofs.Common.{◌++◌, length, map, refl, sym, ◌∙◌, ap, subst, arith, length-append}
-use Rattle.std.specs.Prelude.{◌&&◌, sum_by}
+use Rattle.std.specs.Prelude.{sum_by}
 use Rattle.std.specs.List.{list_all}
-use Rattle.std.proofs.lemmas.Bool.{and_parts, and_from, le-leb, leb-true, leb-false}
+use Rattle.std.proofs.lemmas.Bool.{and_from, le-leb}
 use Rattle.codes.specs.Codes.{Each}
 use Rattle.cache_api.specs.declared.puts.Put.{Put}
 use Rattle.cache_api.specs.declared.puts.Put.TheVariants.{Stored, Full}
 use Rattle.cache_api.specs.Pairs.{Pair, chosen}
-use Rattle.cache_api.specs.Cache.{ample, ArePut, AreToPut, NoRoomFor, NoRoomBehind}
+use Rattle.cache_api.specs.Cache.{CacheState, due_in, ample, ArePut, AreToPut, NoRoomFor}
+use Rattle.cache_api.specs.Cache.{NoRoomBehind}
 use Rattle.pair_frames.proofs.Sizes.{sum_cons}
 use Rattle.relay_store.specs.Puts.{Space, need, takes, filled, puts_in, spaces_behind, all_stored}
-
--- ---- one space that does not take a pair
-
-short_by : (b : Bool) (room taken : ℕ) (space : Space) (spaces : List Space) (pair : Pair)
-    → b ≡ takes pair space → room ≤ taken + space.room
-    → (list_all (takes pair) spaces ≡ false → room < taken + ample pair)
-    → (b && list_all (takes pair) spaces) ≡ false → room < taken + ample pair
-short_by true room taken space spaces pair is le rest e = rest e
-short_by false room taken space spaces pair is le rest e =
-    let short : space.room < need space pair = leb-false (need space pair) space.room (sym is) in
-    omega (arith, short, le)
-
-short : (spaces : List Space) (room taken : ℕ) (pair : Pair)
-    → Each (λ space. room ≤ taken + space.room) spaces → list_all (takes pair) spaces ≡ false
-    → room < taken + ample pair
-short [] room taken pair each e = absurd (cc)
-short (space ∷ spaces) room taken pair each e =
-    short_by (takes pair space) room taken space spaces pair refl each.0
-    (short spaces room taken pair each.1) e
-
--- ---- spaces behind a pair
-
-filled_room : (spaces : List Space) (room taken : ℕ) (pair : Pair)
-    → Each (λ space. room ≤ taken + space.room) spaces → list_all (takes pair) spaces ≡ true
-    → Each (λ space. room ≤ (taken + ample pair) + space.room) (map (filled pair) spaces)
-filled_room [] room taken pair each e = tt
-filled_room (space ∷ spaces) room taken pair each e =
-    let parts = and_parts _ _ e in
-    let fits : need space pair ≤ space.room = leb-true (need space pair) space.room parts.0 in
-    (omega (arith, each.0, fits), filled_room spaces room taken pair each.1 parts.1)
-
-behind_by : (b : Bool) (spaces : List Space) (room taken : ℕ) (pair : Pair) (pairs : List Pair)
-    → b ≡ list_all (takes pair) spaces → Each (λ space. room ≤ taken + space.room) spaces
-    → ((t : ℕ) (others : List Space) → Each (λ space. room ≤ t + space.room) others
-    → NoRoomBehind room t pairs (puts_in others pairs))
-    → NoRoomBehind room taken (pair ∷ pairs)
-    (cond b (Stored ∷ puts_in (map (filled pair) spaces) pairs) (Full ∷ puts_in spaces pairs))
-behind_by true spaces room taken pair pairs is each more =
-    more (taken + ample pair) (map (filled pair) spaces)
-    (filled_room spaces room taken pair each (sym is))
-behind_by false spaces room taken pair pairs is each more =
-    (short spaces room taken pair each (sym is), more taken spaces each)
-
-no_room : (pairs : List Pair) (spaces : List Space) (room taken : ℕ)
-    → Each (λ space. room ≤ taken + space.room) spaces
-    → NoRoomBehind room taken pairs (puts_in spaces pairs)
-no_room [] spaces room taken each = tt
-no_room (pair ∷ pairs) spaces room taken each =
-    behind_by (list_all (takes pair) spaces) spaces room taken pair pairs refl each
-    (λ t others more. no_room pairs others room t more)
-
-even_by : (b : Bool) (x y : List Put) (n : ℕ) → length x ≡ n → length y ≡ n
-    → length (cond b (Stored ∷ x) (Full ∷ y)) ≡ suc n
-even_by true x y n e f = omega (arith, e)
-even_by false x y n e f = omega (arith, f)
-
-pub even : (pairs : List Pair) (spaces : List Space) → length (puts_in spaces pairs) ≡ length pairs
-even [] spaces = refl
-even (pair ∷ pairs) spaces =
-    even_by (list_all (takes pair) spaces) _ _ (length pairs)
-    (even pairs (map (filled pair) spaces)) (even pairs spaces)
-
-pub are_to_put : (spaces : List Space) (room : ℕ) (pairs : List Pair)
-    → Each (λ space. room ≤ space.room) spaces → AreToPut room pairs (puts_in spaces pairs)
-are_to_put spaces room pairs each = record {
-  even = even pairs spaces;
-  full = no_room pairs spaces room 0 (from_zero spaces each);
-}
-  where
-    from_zero : (spaces : List Space) → Each (λ space. room ≤ space.room) spaces
-        → Each (λ space. room ≤ 0 + space.room) spaces
-    from_zero [] each = tt
-    from_zero (space ∷ spaces) each = (omega (arith, each.0), from_zero spaces each.1)
 
 -- ---- where there is room for all
 
@@ -144,9 +72,12 @@ stored_by (Full ∷ puts) (pair ∷ pairs) room taken le same none =
     pairs in
     absurd (omega (arith, le, none.0, sum))
 
-pub stored_all : (puts : List Put) (pairs : List Pair) (room : ℕ) → sum_by ample pairs ≤ room
-    → AreToPut room pairs puts → puts ≡ all_stored pairs
-stored_all puts pairs room le x = stored_by puts pairs room 0 (omega (arith, le)) x.even x.full
+pub stored_all : {B : Type 0} (state : CacheState B) (puts : List Put) (pairs : List Pair)
+    → due_in state ≡ [] → sum_by ample pairs ≤ state.room
+    → AreToPut state pairs puts → puts ≡ all_stored pairs
+stored_all state puts pairs none le x =
+    stored_by puts pairs state.room (sum_by ample (due_in state))
+    (omega (arith, le, ap (λ (due : List Pair). sum_by ample due) none)) x.even x.full
 
 -- ---- with less room
 

@@ -26,7 +26,8 @@ use Rattle.relay_store.proofs.Putting.{putting_memory, putting_none}
 use Rattle.std.specs.Prelude.{IsTrue, Result}
 use Rattle.std.proofs.lemmas.Bool.{and_parts}
 use Rattle.relay_store.specs.Rests.{OnlyNow}
-use Rattle.relay_store.proofs.Spaces.{even, puts_append, spaces_append, chosen_append, put_append}
+use Rattle.relay_store.specs.Rooms.{even}
+use Rattle.relay_store.proofs.Spaces.{puts_append, spaces_append, chosen_append, put_append}
 
 -- what is chosen of pairs and of those behind them
 chosen_both : (xs ys : List Pair) (spaces : List Space)

@@ -5,6 +5,7 @@ pub mod Puts
 pub mod Parts
 pub mod Agree
 pub mod Relays
+pub mod Rooms
 pub mod Calls
 pub mod Devices
 pub mod Fronts

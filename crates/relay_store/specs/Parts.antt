@@ -47,8 +47,10 @@ base_of part = record {
 abbrev pub state_of : {S : Type 0} {G : Ghosts S} → Part S G → CacheState (PartBase G.tells)
 state_of part = record {
   pairs = pairs_of part;
+  lasting = length (pairs_of part);
   whole = (state_in part.store).whole;
   room = (state_in part.store).room;
+  sure = (state_in part.store).room;
   faults = (state_in part.store).faults;
   probes = (state_in part.store).probes;
   base = base_of part;

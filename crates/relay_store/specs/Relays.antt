@@ -1,6 +1,7 @@
 -- A relay as its contracts see it.
 use Rattle.std.specs.Prelude.{◌≡◌, ◌≢◌, ◌⊎◌, ℕ, ◌+◌, min, Bool, true, false, ◌&&◌, ◌==◌}
-use Rattle.std.specs.Prelude.{if◌then◌else◌, List, [], ◌∷◌, ◌++◌, take, Option, Some, None}
+use Rattle.std.specs.Prelude.{if◌then◌else◌, List, [], ◌∷◌, ◌++◌, length, take, Option, Some}
+use Rattle.std.specs.Prelude.{None}
 use Rattle.store_dev.specs.declared.device.StoreDevice.{Ghosts}
 use Rattle.cache_api.specs.declared.hit.Hit.{Hit}
 use Rattle.cache_api.specs.declared.puts.Put.{Put}
@@ -86,13 +87,18 @@ module _ {S R : Type 0} {G : Ghosts S} {H : Ghosts R} where
   later_of r = later r.access.local_puts (part.more_of r.local) (part.more_of r.second)
 
   -- The first pairs of both stores and as many behind them as were counted; where it may be used,
-  -- these are all. It may be used where its stores may and they have the same.
+  -- these are all. They all last, as those of its stores do, and all its room is sure. It may be
+  -- used where its stores may and they have the same.
   abbrev pub state_of : Relay S R G H → CacheState (RelayBase G.tells H.tells)
   state_of r = record {
     pairs = firsts r.access.local_puts (part.first_of r.local) (part.first_of r.second)
         ++ take r.added (later_of r);
+    lasting = length (firsts r.access.local_puts (part.first_of r.local) (part.first_of r.second)
+        ++ take r.added (later_of r));
     whole = r.whole && ((state_in r.local.store).whole && (state_in r.second.store).whole);
     room = room_by r.access.local_puts r.access.second_puts
+        (state_in r.local.store).room (state_in r.second.store).room;
+    sure = room_by r.access.local_puts r.access.second_puts
         (state_in r.local.store).room (state_in r.second.store).room;
     faults = (state_in r.local.store).faults + (state_in r.second.store).faults;
     probes = (state_in r.local.store).probes + (state_in r.second.store).probes;

@@ -1,5 +1,5 @@
 -- A relay that may be used: what its hits show, and what a crash leaves.
-use Rattle.std.proofs.Common.{◌≡◌, inl, inr, ℕ, Bool, true, false, cond, List, []}
+use Rattle.std.proofs.Common.{◌≡◌, inl, inr, ℕ, ◌≤◌, Bool, true, false, cond, List, []}
 use Rattle.std.proofs.Common.{◌++◌, length, map, take, Option, Some, None, refl, sym, ◌∙◌, ap}
 use Rattle.std.proofs.Common.{arith}
 use Rattle.std.specs.Prelude.{◌&&◌, ◌==◌, IsTrue}
@@ -9,7 +9,8 @@ use Rattle.store_dev.specs.declared.device.StoreDevice.{Ghosts}
 use Rattle.cache_api.specs.declared.hit.Hit.{Hit}
 use Rattle.cache_api.specs.Artifacts.{File}
 use Rattle.cache_api.specs.Hits.{paths_of}
-use Rattle.cache_api.specs.Pairs.{Pair}
+use Rattle.cache_api.specs.Pairs.{Pair, IsPartSince}
+use Rattle.cache_api.proofs.Firsts.{all_part}
 use Rattle.record_log.specs.Frames.{text_of}
 use Rattle.artifact_store.specs.declared.store.Store.{Store}
 use Rattle.artifact_store.specs.Hits.{shown_paths}
@@ -147,3 +148,14 @@ module _ {S R : Type 0} {G : Ghosts S} {H : Ghosts R} where
       let both = and_parts _ _ parts.1 in
       second_says r parts.0 t u (told_as (state_in r.second.store).base c)
       (rest_in also r.second.store u both.1 c left.0) left.1
+
+  -- as a cache: a crash leaves all its pairs
+  pub all_rest : OnlyNow G → OnlyNow H → (r : Relay S R G H) (image : Image G.tells H.tells)
+      → G.tells × H.tells → IsTrue (state_of r).whole → left_of r (moment_of r) image
+      → IsPartSince (state_of r).lasting (state_of r).pairs (says (base_of r) image)
+  all_rest only also r image told whole left =
+      all_part (state_of r).pairs (says (base_of r) image) (rests only also r image told whole left)
+
+-- no more of them last, and no more room is sure, than there is
+pub no_more : (n : ℕ) → n ≤ n
+no_more n = omega arith

@@ -13,7 +13,16 @@ use Rattle.artifact_store.specs.Store as store
 
 -- that of a store that is missing
 abbrev pub no_state : CacheState ℕ
-no_state = record { pairs = []; whole = true; room = 0; faults = 0; probes = 0; base = 0 }
+no_state = record {
+  pairs = [];
+  lasting = 0;
+  whole = true;
+  room = 0;
+  sure = 0;
+  faults = 0;
+  probes = 0;
+  base = 0;
+}
 
 abbrev pub state_in : {S : Type 0} {G : Ghosts S} → Option (Store S G) → CacheState ℕ
 state_in None = no_state

@@ -1,15 +1,15 @@
 // A relay as a cache.
-ghost use Rattle.std.specs.Prelude.{◌≡◌, ◌+◌, ◌<◌, ◌≤◌, true, false, length, IsTrue, IfOk};
-ghost use Rattle.std.specs.Prelude.{IfErr, IfSome};
+ghost use Rattle.std.specs.Prelude.{◌≡◌, ◌+◌, ◌<◌, ◌≤◌, ◌++◌, true, false, length, IsTrue, IfOk};
+ghost use Rattle.std.specs.Prelude.{IfErr, IfSome, OnOk};
 ghost use Rattle.rel_path.specs.Causes.{Counts};
 ghost use Rattle.codes.specs.Views.{found_as};
 ghost use Rattle.cache_api.specs.Cache.{CacheReads, Keeps, HitsStay, StaysWhole, AllAfter, ArePut};
-ghost use Rattle.cache_api.specs.Cache.{AreToPut, is_fault, IsFindErr};
+ghost use Rattle.cache_api.specs.Cache.{AllLast, AreToPut, is_fault, IsFindErr};
 ghost use Rattle.cache_api.specs.Found.{found};
 ghost use Rattle.cache_api.specs.Hits.{paths_ascend, owns_paths, span_count, file_spans, bytes_at};
 ghost use Rattle.cache_api.specs.Keys.{text_of as key_text, new_pairs};
 ghost use Rattle.cache_api.specs.Moments.{Leaves};
-ghost use Rattle.cache_api.specs.Pairs.{chosen, IsFirstPart};
+ghost use Rattle.cache_api.specs.Pairs.{chosen, IsPartSince};
 ghost use Rattle.cache_api.specs.Reading.{artifact_in};
 
 use crate::look::look_up;
@@ -23,7 +23,8 @@ use store_dev::StoreDevice;
 impl<S: StoreDevice, R: StoreDevice> Cache for Relay<S, R> {
     ghost use Rattle.relay_store.specs.Relays.{RelayBase, Image, state_of, cost_of, stands, shows};
     ghost use Rattle.relay_store.specs.Relays.{stores, stores_of, moment_of, left_of, says};
-    ghost use Rattle.relay_store.specs.Rests.{paths_shown, rests};
+    ghost use Rattle.relay_store.specs.Rests.{paths_shown, all_rest, no_more};
+    ghost use Rattle.relay_store.specs.Rooms.{are_to_put};
     ghost use Rattle.relay_store.specs.Stores.{state_in, shows_in};
     ghost use Rattle.relay_store.specs.Devices.{IsOnlyRead, IsFound, HasPut, access_of};
 
@@ -51,8 +52,14 @@ impl<S: StoreDevice, R: StoreDevice> Cache for Relay<S, R> {
 
     ghost paths = { λ r hit told stood. paths_shown r hit told stood };
 
+    ghost within = { λ r told. no_more (length (state_of r).pairs) };
+
+    ghost spare = { λ r told. no_more (state_of r).room };
+
+    ghost to_put = { λ r pairs told whole. are_to_put r pairs };
+
     ghost at_rest = { λ r image told whole left.
-        rests S.only_now R.only_now r image told whole left };
+        all_rest S.only_now R.only_now r image told whole left };
 
     /// The store is asked first whose pairs stand last, and the other one where it has none for
     /// the key. Where the device of one store alone tells, a hit in it is what its pairs give, and
@@ -185,15 +192,19 @@ impl<S: StoreDevice, R: StoreDevice> Cache for Relay<S, R> {
             → IfOk result (λ puts. puts ≡ stores self.old (new_pairs pairs.now)) }
         ensures put { IfOk result (λ puts.
             ArePut (state_of self.new).room (new_pairs pairs.now) puts) }
-        ensures pairs { S.tells × R.tells → AllAfter result (state_of self.old).pairs
+        ensures pairs { S.tells × R.tells → AllAfter result (state_of self.old).lasting
+            (state_of self.old).pairs
             (chosen (new_pairs pairs.now) (stores self.old (new_pairs pairs.now)))
             (state_of self.new).pairs }
+        ensures lasts { S.tells × R.tells → OnOk result (AllLast (state_of self.new)) }
         // whatever it answers
-        ensures full { S.tells × R.tells → AreToPut (state_of self.old).room (new_pairs pairs.now)
+        ensures lasting { S.tells × R.tells
+            → (state_of self.old).lasting ≤ (state_of self.new).lasting }
+        ensures full { S.tells × R.tells → AreToPut (state_of self.old) (new_pairs pairs.now)
             (stores self.old (new_pairs pairs.now)) }
         ensures left { S.tells × R.tells → Leaves moment_of left_of self.old self.new
-            (λ image. IsFirstPart (state_of self.old).pairs
-            (chosen (new_pairs pairs.now) (stores self.old (new_pairs pairs.now)))
+            (λ image. IsPartSince (state_of self.old).lasting ((state_of self.old).pairs
+            ++ chosen (new_pairs pairs.now) (stores self.old (new_pairs pairs.now)))
             (says (state_of self.old).base image)) }
         // of each store, where its device alone tells
         ensures devices { HasPut self.old (stores_of self.new) (new_pairs pairs.now) result }
@@ -209,5 +220,23 @@ impl<S: StoreDevice, R: StoreDevice> Cache for Relay<S, R> {
         } else {
             self.put_each(alloc, pairs)
         }
+    }
+
+    /// Nothing is ever due.
+    fn settle(&mut self, _alloc: Global) -> Result<(), CacheErr> {
+        Ok(())
+    }
+
+    /// The same.
+    fn is_due(&self, _key: &Key) -> bool {
+        false
+    }
+
+    fn is_whole(&self) -> bool {
+        self.whole()
+    }
+
+    fn room(&self) -> u64 {
+        self.least_room()
     }
 }

@@ -34,9 +34,11 @@
 //!
 //! `specs/` says when stores serve an access (`Access`), what a store that may be missing is
 //! (`Stores`, `Parts`), what the two have behind their first pairs (`Behind`, `Agree`), which
-//! pairs are put (`Puts`), what a relay is to its callers (`Relays`), what its calls leave of it
-//! (`Calls`, `Rests`) and of one store (`Devices`), and what its images say of each device
-//! (`Laws`), which [`device_law`] and [`full_law`] tell their callers.
+//! pairs are put (`Puts`), what a relay is to its callers (`Relays`), that there is no room where
+//! a pair is not put (`Rooms`), what its calls leave of it (`Calls`, `Rests`) and of one store
+//! (`Devices`), and what its images say of each device (`Laws`), which [`device_law`] and
+//! [`full_law`] tell their callers. As a cache it has all its room for sure, all its pairs last,
+//! and nothing is ever due.
 #![tactic(auto)]
 
 mod cache;

@@ -18,7 +18,7 @@ use std::alloc::Global;
 use store_dev::StoreDevice;
 
 impl<S: StoreDevice, R: StoreDevice> Relay<S, R> {
-    ghost use Rattle.std.specs.Prelude.{◌↔◌, ◌∷◌, ◌≤◌, ◌<◌, [], sum_by, OnOk, OnErr};
+    ghost use Rattle.std.specs.Prelude.{◌↔◌, ◌∷◌, ◌≤◌, ◌<◌, ◌^◌, [], sum_by, OnOk, OnErr};
     ghost use Rattle.std.specs.List.{list_all};
     ghost use Rattle.cache_api.specs.Cache.{ample};
     ghost use Rattle.cache_api.specs.Pairs.{chosen};
@@ -34,12 +34,19 @@ impl<S: StoreDevice, R: StoreDevice> Relay<S, R> {
         ensures { IsTrue result
             ↔ (sum_by ample (new_pairs pairs.now) ≤ (state_of self.now).room) }
     {
-        let room = match (self.access.local_puts, self.access.second_puts) {
+        ample_for(pairs) <= self.least_room()
+    }
+
+    /// The least room of those that are put into.
+    pub(crate) fn least_room(&self) -> u64
+        ensures room { result ≡ (state_of self.now).room }
+        ensures small { result < 2 ^ 63 }
+    {
+        match (self.access.local_puts, self.access.second_puts) {
             (true, true) => self.local.free().min(self.second.free()),
             (true, false) => self.local.free(),
             (false, _) => self.second.free(),
-        };
-        ample_for(pairs) <= room
+        }
     }
 
     /// Adds pairs to each store that is put into, where each has room for all of them. After an

@@ -9,7 +9,6 @@ use Rattle.std.proofs.lemmas.List.Folds.{list_any-append}
 use Rattle.cache_api.specs.declared.puts.Put.{Put}
 use Rattle.cache_api.specs.declared.puts.Put.TheVariants.{Stored, Full}
 use Rattle.cache_api.specs.Pairs.{Pair, chosen}
-use Rattle.cache_api.specs.Cache.{NoRoomBehind, AreToPut, ample}
 use Rattle.pair_reader.specs.Answers.{is_among}
 use Rattle.pair_index.specs.declared.seen.SeenPairs.{SeenPairs}
 use Rattle.pair_index.specs.Seen.{is_seen, numbered, seen_pairs}
@@ -26,21 +25,6 @@ length-chosen (x ∷ pairs) [] even = absurd (omega (arith, even))
 length-chosen (x ∷ pairs) (Stored ∷ puts) even =
     ap suc (length-chosen pairs puts (omega (arith, even)))
 length-chosen (x ∷ pairs) (Full ∷ puts) even = length-chosen pairs puts (omega (arith, even))
-
-less_behind : (room less taken : ℕ) (pairs : List Pair) (puts : List Put) → less ≤ room
-    → NoRoomBehind room taken pairs puts → NoRoomBehind less taken pairs puts
-less_behind room less taken [] puts le x = tt
-less_behind room less taken (p ∷ pairs) [] le x = tt
-less_behind room less taken (p ∷ pairs) (Stored ∷ puts) le x =
-    less_behind room less (taken + ample p) pairs puts le x
-less_behind room less taken (p ∷ pairs) (Full ∷ puts) le x =
-    (omega (arith, le, x.0), less_behind room less taken pairs puts le x.1)
-
-pub to_put_less : (room less : ℕ) (pairs : List Pair) (puts : List Put) → less ≤ room
-    → AreToPut room pairs puts
-    → AreToPut less pairs puts
-to_put_less room less pairs puts le x = record
-    { even = x.even; full = less_behind room less 0 pairs puts le x.full }
 
 -- ---- numbers
 

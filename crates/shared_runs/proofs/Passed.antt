@@ -8,7 +8,8 @@ use Rattle.std.proofs.lemmas.List.{take-take, take-append-le}
 use Rattle.std.proofs.lemmas.List.Elements.{All-weaker}
 use Rattle.store_dev.specs.declared.device.StoreDevice.{Ghosts as DeviceGhosts}
 use Rattle.cache_api.specs.Cache.{CacheReads, Keeps, HitsStay}
-use Rattle.cache_api.specs.Pairs.{Pair}
+use Rattle.cache_api.specs.Pairs.{Pair, IsPartSince}
+use Rattle.cache_api.proofs.Firsts.{all_part}
 use Rattle.record_log.specs.Kinds.{Entry}
 use Rattle.record_log.specs.Frames.{reading, frames_of, ends, opened, text_of}
 use Rattle.record_log.specs.Texts.{text_of_append}
@@ -163,26 +164,33 @@ module _ {H D : Type 0} {G : Ghosts H D} {K : DeviceGhosts D} (old new : SharedS
               ]
         ]
 
+    pairs_more : K.tells → (state_of new).pairs ≡ (state_of old).pairs
+    pairs_more told = view_of_more told (file_of new)
+        (holds_first (frames_in old) (coming_in old) (stays told) (file_of new) (first told).file)
+
     pub reads_view : CacheReads K.tells state_of cost_of stands shows moment_of left_of
         (λ base image. image.pairs) old new
     reads_view = record {
-      pairs = λ told. view_of_more told (file_of new)
-          (holds_first (frames_in old) (coming_in old) (stays told) (file_of new)
-          (first told).file);
+      pairs = pairs_more;
+      lasting = λ told. ap (λ (l : List Pair). length l) (pairs_more told);
+      sure = λ told. refl;
       cost_same = λ told key.
           ap (λ (s : SeenPairs). cost_among s (frames_in new) key) seen
           ∙ cost_more (frames_in old) (frames_in new) (starts told)
           (read_formed (file_of new) (frames_in new) (new.sees told).sound) old.seen key
           (sees_below mark was told);
       hits = hits_start old new starts;
-      left = λ told. leaves_view old new (λ o. o ≡ Some (view_of old.seen (file_of old)))
+      left = λ told. leaves_view old new
+          (λ o. IsPartSince (length (view_of old.seen (file_of old)))
+          (view_of old.seen (file_of old)) o)
           (HoldsFirst (length (frames_in old)) (coming_in old)) (ap is_some was) (starts told)
           (first told).goes
           (λ c left. (
             left_in_turn told c left,
-            ap (λ (l : List Pair). Some l) (view_of_more told c
+            all_part (view_of old.seen (file_of old)) (Some (view_of new.seen c))
+                (ap (λ (l : List Pair). Some l) (view_of_more told c
                 (holds_first (frames_in old) (coming_in old) (stays told) c
-                ((first told).goes.each c left))),
+                ((first told).goes.each c left)))),
           ))
           (λ n le c is. ap (λ (s : SeenPairs). view_of s c) seen);
       keeps = keeps_start (ap (λ (s : SeenPairs). s.first) seen) starts room grows reads;

@@ -10,7 +10,8 @@ use Rattle.rel_path.specs.Limits.{store_limit}
 use Rattle.store_dev.specs.declared.device.StoreDevice.{Ghosts as DeviceGhosts}
 use Rattle.cache_api.specs.Cache.{Keeps, HitsStay}
 use Rattle.cache_api.specs.Moments.{Leaves}
-use Rattle.cache_api.specs.Pairs.{Pair, IsFirstPart}
+use Rattle.cache_api.specs.Pairs.{Pair, IsPartSince}
+use Rattle.cache_api.proofs.Firsts.{added_part}
 use Rattle.record_log.specs.Kinds.{Entry}
 use Rattle.record_log.specs.Frames.{reading, frames_of, ends}
 use Rattle.pair_frames.specs.Pairs.{pairs_in}
@@ -198,11 +199,12 @@ module _ {H D : Type 0} {G : Ghosts H D} {K : DeviceGhosts D} (old : SharedStore
       (holds_starts (frames_in old) c on) refl (file_of old) refl
 
   abbrev Q : List Pair → Option (List Pair) → Type 0
-  Q more o = IsFirstPart (view_of old.seen (file_of old)) more o
+  Q more o = IsPartSince (length (view_of old.seen (file_of old)))
+      (view_of old.seen (file_of old) ++ more) o
 
   none_put : (more : List Pair) (o : List Pair) → o ≡ view_of old.seen (file_of old)
       → Q more (Some o)
-  none_put more o is = (
+  none_put more o is = added_part (view_of old.seen (file_of old)) more (Some o) (
     0,
     omega arith,
     ap (λ (l : List Pair). Some l)
@@ -218,6 +220,9 @@ module _ {H D : Type 0} {G : Ghosts H D} {K : DeviceGhosts D} (old : SharedStore
         (λ i. view_of (seen i) (G.content (shared i).shared))
         ∙ old_view told file (holds_first (frames_in old) all (all_start told) file
         (put_first told file (turn.file told)))
+
+    pub lasting_same : K.tells → (state_of old).lasting ≤ (state_of new).lasting
+    lasting_same told = omega (arith, ap length (pairs_same told))
 
     starts_now : K.tells → StartWith (frames_in old) (frames_in new)
     starts_now told = subst (λ (t : Turns H). StartWith (frames_in old)
@@ -311,7 +316,8 @@ module _ {H D : Type 0} {G : Ghosts H D} {K : DeviceGhosts D} (old : SharedStore
               ∙ append_assoc (pairs_in coming) x z in
               let split : more ≡ x ++ z = behind_same (pairs_in coming) more (x ++ z) both in
               let few : length x ≤ length more =
-              omega (arith, ap length split, length-append x z) in (
+              omega (arith, ap length split, length-append x z) in
+              added_part (view_of old.seen (file_of old)) more (Some (view_of new.seen c)) (
                 length x,
                 few,
                 ap (λ (l : List Pair). Some l)

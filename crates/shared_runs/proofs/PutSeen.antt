@@ -7,7 +7,7 @@ use Rattle.store_dev.specs.declared.device.StoreDevice.{Ghosts as DeviceGhosts}
 use Rattle.cache_api.specs.declared.puts.Put.{Put}
 use Rattle.cache_api.specs.Cache.{Keeps}
 use Rattle.cache_api.specs.Moments.{Leaves}
-use Rattle.cache_api.specs.Pairs.{Pair, chosen, IsFirstPart}
+use Rattle.cache_api.specs.Pairs.{Pair, chosen, IsPartSince}
 use Rattle.record_log.specs.Kinds.{Entry}
 use Rattle.pair_frames.specs.Pairs.{pairs_in}
 use Rattle.pair_index.specs.declared.seen.SeenPairs.{SeenPairs}
@@ -88,6 +88,13 @@ module _ {H D : Type 0} {G : Ghosts H D} {K : DeviceGhosts D} (old : SharedStore
       done.pairs_are (from_all told) store_now refl refl own_now
       ∙ ap (λ p. view_of old.seen (file_of old) ++ chosen news p) done.puts_are
 
+  pub lasting_now : K.tells → (state_of old).lasting ≤ (state_of store_now).lasting
+  lasting_now told = omega (
+    arith,
+    ap length (pairs_now told),
+    length-append (state_of old).pairs (chosen news (stores old news)),
+  )
+
   pub file_now : K.tells → pairs_at (G.content turns.shared)
       ≡ pairs_in (coming_in old) ++ chosen news (stores old news)
   file_now told =
@@ -96,11 +103,13 @@ module _ {H D : Type 0} {G : Ghosts H D} {K : DeviceGhosts D} (old : SharedStore
       ∙ done.pairs_are ∙ ap (λ p. pairs_in (coming_in old) ++ chosen news p) done.puts_are
 
   pub left_now : K.tells → Leaves moment_of left_of old store_now
-      (λ i. IsFirstPart (view_of old.seen (file_of old)) (chosen news (stores old news)) i.pairs)
+      (λ i. IsPartSince (state_of old).lasting
+      ((state_of old).pairs ++ chosen news (stores old news)) i.pairs)
   left_now told =
       let done = x.done told in
       subst (λ p. Leaves moment_of left_of old store_now
-      (λ i. IsFirstPart (view_of old.seen (file_of old)) (chosen news p) i.pairs)) done.puts_are
+      (λ i. IsPartSince (state_of old).lasting ((state_of old).pairs ++ chosen news p) i.pairs))
+      done.puts_are
       (left_more old turns news mark was stays turn told done.frames (chosen news puts) from
       done.pairs_are (from_all told) store_now refl refl own_now refl refl)
 

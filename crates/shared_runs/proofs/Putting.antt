@@ -10,6 +10,7 @@ use Rattle.cache_api.specs.declared.error.CacheErr.{CacheErr}
 use Rattle.cache_api.specs.declared.error.CacheErr.TheVariants.{Full, Failed, OutOfMemory}
 use Rattle.cache_api.specs.Cache.{StaysWhole, AllAfter}
 use Rattle.cache_api.specs.Pairs.{Pair}
+use Rattle.cache_api.proofs.Firsts.{first_added}
 use Rattle.record_log.specs.Kinds.{Entry}
 use Rattle.record_log.specs.Frames.{reading, frames_of, ends, IsSound}
 use Rattle.record_log.specs.Texts.{ends_append}
@@ -51,9 +52,9 @@ ok_whole {T = T} answer x was now is p = subst
 
 pub ok_after : {T : Type 0} (answer : Result T CacheErr) (x : T) (was more now : List Pair) → answer
     ≡ Ok x
-    → AllAfter answer was more now → now ≡ was ++ more
+    → AllAfter answer (length was) was more now → now ≡ was ++ more
 ok_after {T = T} answer x was more now is p = subst
-    (λ (r : Result T CacheErr). AllAfter r was more now) is p
+    (λ (r : Result T CacheErr). AllAfter r (length was) was more now) is p
 
 pub ok_said : {T : Type 0} (answer : Result T CacheErr) (x : T) (P : Type 0) → answer ≡ Ok x
     → OnOk answer P → P
@@ -61,14 +62,14 @@ ok_said {T = T} answer x P is p = subst (λ (r : Result T CacheErr). OnOk r P) i
 
 -- the first of what was to be put, whatever was answered
 pub some_put : {T : Type 0} (answer : Result T CacheErr) (was more now : List Pair)
-    → AllAfter answer was more now
+    → AllAfter answer (length was) was more now
     → (count : ℕ) × (count ≤ length more) × (now ≡ was ++ take count more)
 some_put (Ok x) was more now is = (
   length more,
   omega arith,
   is ∙ ap (λ (l : List Pair). was ++ l) (sym (take_all (length more) more (omega arith))),
 )
-some_put (Err Failed) was more now is = is
+some_put (Err Failed) was more now is = first_added was more now is
 some_put (Err OutOfMemory) was more now is = (0, omega arith, is ∙ sym (append-nil was))
 some_put (Err Full) was more now is = (0, omega arith, is ∙ sym (append-nil was))
 

@@ -1,5 +1,5 @@
 -- A shared file as a cache of one run.
-use Rattle.std.specs.Prelude.{ℕ, ◌+◌, ◌-◌, min, List, take, Option, is_some}
+use Rattle.std.specs.Prelude.{ℕ, ◌+◌, ◌-◌, min, List, length, take, Option, is_some}
 use Rattle.store_dev.specs.declared.device.StoreDevice.{Ghosts as DeviceGhosts}
 use Rattle.rel_path.specs.Limits.{store_limit}
 use Rattle.cache_api.specs.declared.hit.Hit.{Hit}
@@ -40,15 +40,17 @@ module _ {H D : Type 0} {G : Ghosts H D} {K : DeviceGhosts D} where
   abbrev pub coming_in : SharedStore H D G K → List Entry
   coming_in s = G.coming s.turns.shared
 
-  -- The pairs are those that the run sees; it may be used while what is known of the frames is
-  -- kept; the room is that of its last turn, or what the frames to come leave of it; its reads are
-  -- those of its turns once they are open; and what it keeps as it is are the pairs of its first
-  -- turn.
+  -- The pairs are those that the run sees, and all of them last; it may be used while what is known
+  -- of the frames is kept; the room is that of its last turn, or what the frames to come leave of
+  -- it, and none of it is sure, since others may take it at any moment; its reads are those of its
+  -- turns once they are open; and what it keeps as it is are the pairs of its first turn.
   abbrev pub state_of : SharedStore H D G K → CacheState (K.tells → List Pair)
   state_of s = record {
     pairs = view_of s.seen (file_of s);
+    lasting = length (view_of s.seen (file_of s));
     whole = is_some s.turns.mark;
     room = min s.turns.room (store_limit - ends (coming_in s));
+    sure = 0;
     faults = G.store_faults s.turns.shared + s.turns.damaged;
     probes = s.turns.reads;
     base = λ told. take s.seen.first (pairs_at (file_of s));

@@ -1,15 +1,15 @@
 // A shared file as a cache of one run.
-ghost use Rattle.std.specs.Prelude.{◌≡◌, ◌+◌, ◌<◌, ◌≤◌, false, List, ℕ, length, IsTrue, IfOk};
-ghost use Rattle.std.specs.Prelude.{IfErr, IfSome, OnErr};
+ghost use Rattle.std.specs.Prelude.{◌≡◌, ◌+◌, ◌<◌, ◌≤◌, ◌++◌, false, List, ℕ, length, IsTrue};
+ghost use Rattle.std.specs.Prelude.{IfOk, IfErr, IfSome, OnOk, OnErr};
 ghost use Rattle.rel_path.specs.Causes.{Counts};
 ghost use Rattle.codes.specs.Views.{found_as};
 ghost use Rattle.cache_api.specs.Cache.{CacheReads, Keeps, HitsStay, StaysWhole, AllAfter, ArePut};
-ghost use Rattle.cache_api.specs.Cache.{AreToPut, is_fault, IsFindErr};
+ghost use Rattle.cache_api.specs.Cache.{AllLast, AreToPut, is_fault, IsFindErr};
 ghost use Rattle.cache_api.specs.Found.{found};
 ghost use Rattle.cache_api.specs.Hits.{paths_ascend, owns_paths, span_count, file_spans, bytes_at};
 ghost use Rattle.cache_api.specs.Keys.{text_of as key_text, new_pairs};
 ghost use Rattle.cache_api.specs.Moments.{Leaves};
-ghost use Rattle.cache_api.specs.Pairs.{chosen, IsFirstPart};
+ghost use Rattle.cache_api.specs.Pairs.{chosen, IsPartSince};
 ghost use Rattle.cache_api.specs.Reading.{artifact_in};
 ghost use Rattle.record_log.specs.Frames.{text_of};
 
@@ -28,7 +28,7 @@ impl<H: Shared> Cache for SharedStore<H> {
     ghost use Rattle.shared_runs.specs.Shared.{Image as left_image, moment_of, left_of, said};
     ghost use Rattle.shared_runs.specs.Passing.{LeavesFirst};
     ghost use Rattle.shared_runs.specs.Passes.{LeavesPut};
-    ghost use Rattle.shared_runs.specs.SharedLaws.{rests};
+    ghost use Rattle.shared_runs.specs.SharedLaws.{rests, all_last, none_sure, are_to_put};
     ghost use Rattle.shared_runs.specs.Steps.{Looks, Reads, Adds};
 
     ghost tells = { H.Device.tells };
@@ -54,6 +54,12 @@ impl<H: Shared> Cache for SharedStore<H> {
     ghost says = { λ base image. said base image };
 
     ghost paths = { λ s hit told stood. shown_paths (text_of (frames_in s)) hit };
+
+    ghost within = { λ s told. all_last s };
+
+    ghost spare = { λ s told. none_sure s };
+
+    ghost to_put = { λ s pairs told whole. are_to_put s pairs };
 
     ghost at_rest = { λ s image told whole left.
         rests s (λ c now. H.only_now s.turns.shared c now) image told whole left };
@@ -147,15 +153,19 @@ impl<H: Shared> Cache for SharedStore<H> {
             → IfOk result (λ puts. puts ≡ stores self.old (new_pairs pairs.now)) }
         ensures put { IfOk result (λ puts.
             ArePut (state_of self.new).room (new_pairs pairs.now) puts) }
-        ensures pairs { H.Device.tells → AllAfter result (state_of self.old).pairs
+        ensures pairs { H.Device.tells → AllAfter result (state_of self.old).lasting
+            (state_of self.old).pairs
             (chosen (new_pairs pairs.now) (stores self.old (new_pairs pairs.now)))
             (state_of self.new).pairs }
+        ensures lasts { H.Device.tells → OnOk result (AllLast (state_of self.new)) }
         // whatever it answers
-        ensures full { H.Device.tells → AreToPut (state_of self.old).room (new_pairs pairs.now)
+        ensures lasting { H.Device.tells
+            → (state_of self.old).lasting ≤ (state_of self.new).lasting }
+        ensures full { H.Device.tells → AreToPut (state_of self.old) (new_pairs pairs.now)
             (stores self.old (new_pairs pairs.now)) }
         ensures left { H.Device.tells → Leaves moment_of left_of self.old self.new
-            (λ image. IsFirstPart (state_of self.old).pairs
-            (chosen (new_pairs pairs.now) (stores self.old (new_pairs pairs.now)))
+            (λ image. IsPartSince (state_of self.old).lasting ((state_of self.old).pairs
+            ++ chosen (new_pairs pairs.now) (stores self.old (new_pairs pairs.now)))
             (said (state_of self.old).base image)) }
         // Each image since, and the file, hold the frames that the file had and the first of those
         // that were to come, or all of these and the frames of the pairs.
@@ -185,5 +195,24 @@ impl<H: Shared> Cache for SharedStore<H> {
                 Err(fault)
             }
         }
+    }
+
+    /// Nothing is ever due.
+    fn settle(&mut self, _alloc: Global) -> Result<(), CacheErr> {
+        Ok(())
+    }
+
+    /// The same.
+    fn is_due(&self, _key: &Key) -> bool {
+        false
+    }
+
+    fn is_whole(&self) -> bool {
+        self.turns.mark.is_some()
+    }
+
+    /// None: others may take it at any moment.
+    fn room(&self) -> u64 {
+        0
     }
 }

@@ -18,6 +18,9 @@
 //! which is counted, and where the file is found to be no store any more. After an error the cache
 //! is to be opened again, and takes no further turn.
 //!
+//! As a cache all its pairs last, and nothing is ever due. None of its room is sure, since others
+//! may take it at any moment: so nothing is held back over such a file.
+//!
 //! A cache counts how often its calls read frames of the file (`SharedStore::probes`): those that a
 //! look-up reads, the places of a hit, and what a put compares. To read what others appended is
 //! part of taking a turn, and is not counted.

@@ -1,12 +1,12 @@
-use Rattle.std.proofs.Common.{◌≡◌, ◌⊎◌, inl, inr, ⊎_elim, ◌++◌, ◌-◌, List, Option, Some, sym, ◌∙◌, ap, subst, arith}
-use Rattle.std.proofs.lemmas.List.{append-nil}
+use Rattle.std.proofs.Common.{◌≡◌, ◌⊎◌, inl, inr, ⊎_elim, ◌++◌, ◌-◌, List, length, ◌∙◌, ap, subst, arith}
 use Rattle.std.proofs.lemmas.Result.{err_from_is_err_and}
 use Rattle.store_dev.specs.Device.{LeavesOnly}
 use Rattle.cache_api.specs.declared.error.CacheErr.TheVariants.{Failed}
 use Rattle.cache_api.specs.declared.puts.Puts.{Puts}
 use Rattle.cache_api.specs.Keys.{new_pairs}
 use Rattle.cache_api.specs.Moments.{leaves_more}
-use Rattle.cache_api.specs.Pairs.{Pair, chosen, IsFirstPart}
+use Rattle.cache_api.specs.Pairs.{Pair, chosen, IsPartSince}
+use Rattle.cache_api.proofs.Firsts.{part_more}
 use Rattle.record_log.specs.Kinds.{Entry}
 use Rattle.record_log.specs.Batch.{IsBeforeOrAll}
 use Rattle.blob_pool.specs.Laws.{frames_read}
@@ -14,8 +14,8 @@ use Rattle.pair_frames.specs.Pairs.{pairs_in}
 use Rattle.pair_writer.specs.Staged.{entries, taken}
 use Rattle.artifact_store.specs.Pairs.{told_as}
 use Rattle.artifact_store.specs.Store.{device_of, frames_of, state_of, moment_of, left_of, stores}
-use Rattle.artifact_store.proofs.After.{cache_reads, hits_after, after_err, after_both, images_after, put_left, generation_same}
-use Rattle.artifact_store.proofs.Fits.{are_to_put, are_put_less}
+use Rattle.artifact_store.specs.Fits.{are_to_put, are_put_less}
+use Rattle.artifact_store.proofs.After.{cache_reads, hits_after, after_err, after_both, no_fewer, images_after, put_left, generation_same}
 use Rattle.artifact_store.proofs.cache.StoreCache.put_all.Goals as goal
 
 pub returns-in_err-staged-clause-pairs : goal.returns-in_err-staged-clause-pairs
@@ -28,12 +28,13 @@ returns-in_err-staged-clause-pairs g c told =
     rw (p.1, p.2) (after_err Puts e (pairs_in (frames_of store)) (chosen (new_pairs c.args.pairs.now) (stores store (new_pairs c.args.pairs.now))) (pairs_in (frames_of c.stage.new.self)) c.in_err-staged.ensures.answers (inr same) (inl same))
 
 pub returns-in_err-staged-clause-full : goal.returns-in_err-staged-clause-full
-returns-in_err-staged-clause-full g c told =
-    let store = c.args.self.now in
-    are_to_put (state_of store).room (frames_of store) (new_pairs c.args.pairs.now)
+returns-in_err-staged-clause-full g c told = are_to_put c.args.self.now (new_pairs c.args.pairs.now)
 
-first_none : (pairs chosen : List Pair) (o : Option (List Pair)) → o ≡ Some pairs → IsFirstPart pairs chosen o
-first_none pairs chosen o is = (0, omega arith, is ∙ ap (λ (l : List Pair). Some l) (sym (append-nil pairs)))
+pub returns-in_err-staged-clause-lasting : goal.returns-in_err-staged-clause-lasting
+returns-in_err-staged-clause-lasting g c told =
+    let store = c.args.self.now in
+    let same = ap pairs_in (frames_read store.log c.stage.new.self.log c.stage.ensures.reads.log) in
+    omega (arith, ap length same)
 
 pub returns-in_err-staged-clause-left : goal.returns-in_err-staged-clause-left
 returns-in_err-staged-clause-left g c told =
@@ -42,10 +43,11 @@ returns-in_err-staged-clause-left g c told =
     let news = new_pairs c.args.pairs.now in
     let reads = cache_reads store mid c.requires (g.met.S.StoreDevice.only_now (device_of store)) c.stage.ensures.reads in
     leaves_more moment_of left_of store mid
-    (λ c. told_as store.generation c ≡ Some (pairs_in (frames_of store)))
-    (λ c. IsFirstPart (pairs_in (frames_of store)) (chosen news (stores store news)) (told_as store.generation c))
+    (λ c. IsPartSince (state_of store).lasting (state_of store).pairs (told_as store.generation c))
+    (λ c. IsPartSince (state_of store).lasting ((state_of store).pairs ++ chosen news (stores store news)) (told_as store.generation c))
     (reads.left told)
-    (λ c is. first_none (pairs_in (frames_of store)) (chosen news (stores store news)) (told_as store.generation c) is)
+    (λ c is. part_more (state_of store).lasting (state_of store).pairs (chosen news (stores store news)) (told_as store.generation c)
+    (omega arith) is)
 
 pub returns-in_err-add-clause-images : goal.returns-in_err-add-clause-images
 returns-in_err-add-clause-images g c told =
@@ -78,10 +80,21 @@ returns-in_err-add-clause-pairs g c told =
     (after_both store mid new es c.stage.ensures.reads (c.add.ensures.after told)) in
     rw (p.1, p.2) (after_err Puts e (pairs_in fs) (chosen news (stores store news)) (pairs_in (frames_of new)) c.in_err-add.ensures.answers unchanged after)
 
-pub returns-in_err-add-clause-full : goal.returns-in_err-add-clause-full
-returns-in_err-add-clause-full g c told =
+pub returns-in_err-add-clause-lasting : goal.returns-in_err-add-clause-lasting
+returns-in_err-add-clause-lasting g c told =
     let store = c.args.self.now in
-    are_to_put (state_of store).room (frames_of store) (new_pairs c.args.pairs.now)
+    let mid = c.stage.new.self in
+    let new = c.add.new.self in
+    let news = new_pairs c.args.pairs.now in
+    let es = entries c.in_ok-staged.staged in
+    let chosen_are : chosen news c.in_ok-staged.puts ≡ chosen news (stores store news) = ap (chosen news) (c.in_ok-staged.ensures.puts told) in
+    let pairs = c.in_ok-staged.ensures.pairs told ∙ ap (λ (l : List Pair). pairs_in (frames_of store) ++ l) chosen_are in
+    no_fewer (pairs_in (frames_of store)) (chosen news (stores store news)) (pairs_in (frames_of new))
+    (⊎_elim (λ is. inl (ap pairs_in is)) (λ is. inr (ap pairs_in is ∙ pairs))
+    (after_both store mid new es c.stage.ensures.reads (c.add.ensures.after told)))
+
+pub returns-in_err-add-clause-full : goal.returns-in_err-add-clause-full
+returns-in_err-add-clause-full g c told = are_to_put c.args.self.now (new_pairs c.args.pairs.now)
 
 pub returns-in_err-add-clause-left : goal.returns-in_err-add-clause-left
 returns-in_err-add-clause-left g c told =
@@ -121,10 +134,21 @@ returns-clause-images g c told =
     (c.in_ok-staged.ensures.staged told)
     (images_after store mid new c.requires told (g.met.S.StoreDevice.only_now (device_of store)) c.stage.ensures.reads es (c.add.ensures.images told))
 
-pub returns-clause-full : goal.returns-clause-full
-returns-clause-full g c told =
+pub returns-clause-lasting : goal.returns-clause-lasting
+returns-clause-lasting g c told =
     let store = c.args.self.now in
-    are_to_put (state_of store).room (frames_of store) (new_pairs c.args.pairs.now)
+    let mid = c.stage.new.self in
+    let new = c.add.new.self in
+    let news = new_pairs c.args.pairs.now in
+    let es = entries c.in_ok-staged.staged in
+    let chosen_are : chosen news c.in_ok-staged.puts ≡ chosen news (stores store news) = ap (chosen news) (c.in_ok-staged.ensures.puts told) in
+    let pairs = c.in_ok-staged.ensures.pairs told ∙ ap (λ (l : List Pair). pairs_in (frames_of store) ++ l) chosen_are in
+    no_fewer (pairs_in (frames_of store)) (chosen news (stores store news)) (pairs_in (frames_of new))
+    (⊎_elim (λ is. inl (ap pairs_in is)) (λ is. inr (ap pairs_in is ∙ pairs))
+    (after_both store mid new es c.stage.ensures.reads (c.add.ensures.after told)))
+
+pub returns-clause-full : goal.returns-clause-full
+returns-clause-full g c told = are_to_put c.args.self.now (new_pairs c.args.pairs.now)
 
 pub returns-clause-left : goal.returns-clause-left
 returns-clause-left g c told =

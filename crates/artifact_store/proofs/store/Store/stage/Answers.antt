@@ -10,7 +10,7 @@ use Rattle.pair_writer.specs.Putting.{put_of}
 use Rattle.pair_writer.specs.Staged.{entries}
 use Rattle.artifact_store.specs.Store.{frames_of, state_of, stores}
 use Rattle.artifact_store.proofs.Both.{both_ok, all_ok}
-use Rattle.artifact_store.proofs.Fits.{texts_put, outcomes_fit, kept_chosen}
+use Rattle.artifact_store.specs.Fits.{texts_put, outcomes_fit, kept_chosen}
 use Rattle.artifact_store.proofs.store.Store.stage.Goals as goal
 
 pub returns-clause-puts : goal.returns-clause-puts

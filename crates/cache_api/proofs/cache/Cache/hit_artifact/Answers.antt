@@ -22,6 +22,10 @@ returns-in_err-push-clause-probes g c =
     let within : c.loop-index.index < length c.args.hit.now.files = search rules in
     omega (arith, c.loop-index.invariant.probes, c.hit_file.ensures.probes, spans_within c.args.hit.now c.loop-index.index within)
 
+pub returns-in_err-push-clause-reads : goal.returns-in_err-push-clause-reads
+returns-in_err-push-clause-reads g c =
+    reads_then _ _ _ _ _ _ _ _ _ _ _ c.loop-index.invariant.reads c.hit_file.ensures.reads
+
 pub loop-index-preserved : goal.loop-index-preserved
 loop-index-preserved g c =
     let old = c.loop-index.invariant in

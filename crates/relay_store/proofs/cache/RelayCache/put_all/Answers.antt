@@ -8,11 +8,11 @@ use Rattle.cache_api.specs.Pairs.{Pair, chosen}
 use Rattle.relay_store.specs.Parts as part
 use Rattle.relay_store.specs.Relays.{state_of, spaces, stores, stores_of}
 use Rattle.relay_store.proofs.Devices.{both_tell, gives_all, gives_stores}
+use Rattle.relay_store.specs.Rooms.{each_space, are_to_put}
 use Rattle.relay_store.proofs.Filled.{local_there, second_there, room_local, room_second}
-use Rattle.relay_store.proofs.Filled.{each_space}
 use Rattle.relay_store.proofs.Fitting.{fit_ample}
-use Rattle.relay_store.proofs.Putting.{putting_as, all_after}
-use Rattle.relay_store.proofs.Spaces.{are_to_put, stores_all, chosen_all}
+use Rattle.relay_store.proofs.Putting.{putting_as, all_after, no_fewer, put_left}
+use Rattle.relay_store.proofs.Spaces.{stores_all, chosen_all}
 use Rattle.relay_store.proofs.cache.RelayCache.put_all.Goals as goal
 
 pub put_fitting-requires-clause-local : goal.put_fitting-requires-clause-local
@@ -62,16 +62,20 @@ returns-then-has_ample_room-clause-pairs g c told =
     (each_space r (sum_by ample news) (c.has_ample_room.ensures.0 c.if-has_ample_room.true)) in
     let chosen_are : news ≡ chosen news (stores r news) = sym
     (ap (chosen news) all ∙ chosen_all news) in
-    subst (λ (l : List Pair). AllAfter c.put_fitting.result (state_of r).pairs l
-    (state_of c.put_fitting.new.self).pairs) chosen_are
+    subst (λ (l : List Pair). AllAfter c.put_fitting.result (state_of r).lasting
+    (state_of r).pairs l (state_of c.put_fitting.new.self).pairs) chosen_are
     (all_after c.put_fitting.result (state_of r).pairs news (state_of c.put_fitting.new.self).pairs
     (c.put_fitting.ensures.putting.pairs told) (c.put_fitting.ensures.unchanged told.0 told.1))
 
 pub returns-then-has_ample_room-clause-full : goal.returns-then-has_ample_room-clause-full
 returns-then-has_ample_room-clause-full g c told =
-    let r = c.args.self.now in
-    are_to_put (spaces r) (state_of r).room (new_pairs c.args.pairs.now)
-    (each_space r (state_of r).room (omega arith))
+    are_to_put c.args.self.now (new_pairs c.args.pairs.now)
+
+pub returns-then-has_ample_room-clause-lasting : goal.returns-then-has_ample_room-clause-lasting
+returns-then-has_ample_room-clause-lasting g c told =
+    no_fewer c.put_fitting.result (state_of c.args.self.now).pairs (new_pairs c.args.pairs.now)
+    (state_of c.put_fitting.new.self).pairs
+    (c.put_fitting.ensures.putting.pairs told) (c.put_fitting.ensures.unchanged told.0 told.1)
 
 pub returns-then-has_ample_room-clause-left : goal.returns-then-has_ample_room-clause-left
 returns-then-has_ample_room-clause-left g c told =
@@ -81,8 +85,9 @@ returns-then-has_ample_room-clause-left g c told =
     (each_space r (sum_by ample news) (c.has_ample_room.ensures.0 c.if-has_ample_room.true)) in
     let chosen_are : news ≡ chosen news (stores r news) = sym
     (ap (chosen news) all ∙ chosen_all news) in
-    (putting_as r c.put_fitting.new.self news (chosen news (stores r news)) c.put_fitting.result
-    (λ both. chosen_are) c.put_fitting.ensures.putting).left told
+    put_left r c.put_fitting.new.self (chosen news (stores r news))
+    ((putting_as r c.put_fitting.new.self news (chosen news (stores r news)) c.put_fitting.result
+    (λ both. chosen_are) c.put_fitting.ensures.putting).left told)
 
 pub returns-else-has_ample_room-clause-pairs : goal.returns-else-has_ample_room-clause-pairs
 returns-else-has_ample_room-clause-pairs g c told =
@@ -94,6 +99,19 @@ returns-else-has_ample_room-clause-pairs g c told =
 
 pub returns-else-has_ample_room-clause-full : goal.returns-else-has_ample_room-clause-full
 returns-else-has_ample_room-clause-full g c told =
+    are_to_put c.args.self.now (new_pairs c.args.pairs.now)
+
+pub returns-else-has_ample_room-clause-lasting : goal.returns-else-has_ample_room-clause-lasting
+returns-else-has_ample_room-clause-lasting g c told =
     let r = c.args.self.now in
-    are_to_put (spaces r) (state_of r).room (new_pairs c.args.pairs.now)
-    (each_space r (state_of r).room (omega arith))
+    let news = new_pairs c.args.pairs.now in
+    no_fewer c.put_each.result (state_of r).pairs (chosen news (stores r news))
+    (state_of c.put_each.new.self).pairs
+    (c.put_each.ensures.putting.pairs told) (c.put_each.ensures.unchanged told.0 told.1)
+
+pub returns-else-has_ample_room-clause-left : goal.returns-else-has_ample_room-clause-left
+returns-else-has_ample_room-clause-left g c told =
+    let r = c.args.self.now in
+    let news = new_pairs c.args.pairs.now in
+    put_left r c.put_each.new.self (chosen news (stores r news))
+    (c.put_each.ensures.putting.left told)

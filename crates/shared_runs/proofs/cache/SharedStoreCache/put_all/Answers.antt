@@ -11,16 +11,16 @@ use Rattle.cache_api.specs.declared.error.CacheErr.{CacheErr}
 use Rattle.cache_api.specs.declared.error.CacheErr.TheVariants.{OutOfMemory}
 use Rattle.record_log.specs.Frames.{ends}
 use Rattle.artifact_store.proofs.After.{after_err}
-use Rattle.artifact_store.proofs.Fits.{are_to_put, are_put_less}
+use Rattle.artifact_store.specs.Fits.{are_put_less}
 use Rattle.shared_runs.specs.Own.{numbers_on, stored_in}
-use Rattle.shared_runs.specs.Shared.{stores, file_of, coming_in, state_of}
+use Rattle.shared_runs.specs.Shared.{stores, file_of}
+use Rattle.shared_runs.specs.SharedLaws.{are_to_put}
 use Rattle.shared_runs.specs.Views.{view_of}
 use Rattle.shared_runs.proofs.Ending.{some_of}
-use Rattle.shared_runs.proofs.Owning.{to_put_less}
 use Rattle.shared_runs.proofs.PutCalls.{dropped, sees_put, kept_put, now_store, put_starts, put_dropped}
-use Rattle.shared_runs.proofs.PutCalls.{pairs_same, keeps_same, left_same}
+use Rattle.shared_runs.proofs.PutCalls.{pairs_same, lasting_same, keeps_same, left_same}
 use Rattle.shared_runs.proofs.PutSeen.{AreNumbered, seen_now, below_now, few_now}
-use Rattle.shared_runs.proofs.PutSeen.{pairs_now, file_now, left_now, keeps_now}
+use Rattle.shared_runs.proofs.PutSeen.{pairs_now, lasting_now, file_now, left_now, keeps_now}
 use Rattle.shared_runs.proofs.PutCalls.{sees_own, kept_own}
 use Rattle.shared_runs.proofs.Passed.{hits_start}
 use Rattle.shared_runs.proofs.Stepping.{adds_ok, adds_err}
@@ -82,7 +82,10 @@ returns-in_err-puts-clause-pairs g c told =
     c.in_err-puts.ensures.answers (inr same) (inl same))
 
 pub returns-in_err-puts-clause-full : goal.returns-in_err-puts-clause-full
-returns-in_err-puts-clause-full g c told =
+returns-in_err-puts-clause-full g c told = are_to_put c.args.self.now (new_pairs c.args.pairs.now)
+
+pub returns-in_err-puts-clause-lasting : goal.returns-in_err-puts-clause-lasting
+returns-in_err-puts-clause-lasting g c told =
     let old = c.args.self.now in
     let (m, was) = some_of old.turns.mark c.requires in
     let stays = λ (told : g.H.Device.StoreDevice.tells).
@@ -90,9 +93,8 @@ returns-in_err-puts-clause-full g c told =
     let news = new_pairs c.args.pairs.now in
     let new = c.put.new.self in
     let turn = c.put.ensures.turn in
-    let x = store_limit - ends (coming_in old) in
-    to_put_less x (state_of old).room news (stores old news) (omega arith)
-    (are_to_put x (coming_in old) news)
+    lasting_same old new news m was stays turn (now_store old new news m was stays turn) refl refl
+    (inl (ap is_some c.in_err-puts.ensures.dropped)) told
 
 pub returns-in_err-puts-clause-left : goal.returns-in_err-puts-clause-left
 returns-in_err-puts-clause-left g c told =
@@ -174,7 +176,10 @@ returns-in-Err-clause-pairs g c told =
     (find_oom c.in-Err.fault c.in-Err.ensures.answers) (inr same) (inl same)
 
 pub returns-in-Err-clause-full : goal.returns-in-Err-clause-full
-returns-in-Err-clause-full g c told =
+returns-in-Err-clause-full g c told = are_to_put c.args.self.now (new_pairs c.args.pairs.now)
+
+pub returns-in-Err-clause-lasting : goal.returns-in-Err-clause-lasting
+returns-in-Err-clause-lasting g c told =
     let old = c.args.self.now in
     let (m, was) = some_of old.turns.mark c.requires in
     let stays = λ (told : g.H.Device.StoreDevice.tells).
@@ -182,9 +187,8 @@ returns-in-Err-clause-full g c told =
     let news = new_pairs c.args.pairs.now in
     let new = dropped c.put.new.self in
     let turn = put_dropped news old.turns c.put.new.self c.put.ensures.turn in
-    let x = store_limit - ends (coming_in old) in
-    to_put_less x (state_of old).room news (stores old news) (omega arith)
-    (are_to_put x (coming_in old) news)
+    lasting_same old new news m was stays turn (now_store old new news m was stays turn) refl refl
+    (inl refl) told
 
 pub returns-in-Err-clause-left : goal.returns-in-Err-clause-left
 returns-in-Err-clause-left g c told =
@@ -289,17 +293,7 @@ invariant_of-self-in-Ok g c =
     }
 
 pub returns-in-Ok-clause-full : goal.returns-in-Ok-clause-full
-returns-in-Ok-clause-full g c told =
-    let old = c.args.self.now in
-    let (m, was) = some_of old.turns.mark c.requires in
-    let stays = λ (told : g.H.Device.StoreDevice.tells).
-    g.met.H.Shared.stays old.turns.shared told (old.sees told).sound in
-    let news = new_pairs c.args.pairs.now in
-    let new = c.put.new.self in
-    let turn = c.put.ensures.turn in
-    let x = store_limit - ends (coming_in old) in
-    to_put_less x (state_of old).room news (stores old news) (omega arith)
-    (are_to_put x (coming_in old) news)
+returns-in-Ok-clause-full g c told = are_to_put c.args.self.now (new_pairs c.args.pairs.now)
 
 pub returns-in-Ok-clause-put : goal.returns-in-Ok-clause-put
 returns-in-Ok-clause-put g c =
@@ -342,6 +336,36 @@ returns-in-Ok-clause-pairs g c told =
       );
     } in
     pairs_now old new news m was stays turn puts from next own x told
+
+pub returns-in-Ok-clause-lasting : goal.returns-in-Ok-clause-lasting
+returns-in-Ok-clause-lasting g c told =
+    let old = c.args.self.now in
+    let (m, was) = some_of old.turns.mark c.requires in
+    let stays = λ (told : g.H.Device.StoreDevice.tells).
+    g.met.H.Shared.stays old.turns.shared told (old.sees told).sound in
+    let news = new_pairs c.args.pairs.now in
+    let new = c.put.new.self in
+    let turn = c.put.ensures.turn in
+    let puts = c.in_ok-puts.puts in
+    let from = c.max-from.result in
+    let next = c.in-Ok.next in
+    let own = c.in-Ok.own in
+    let x : AreNumbered g.H.Shared g.H.Device.StoreDevice old new news puts from next own = record {
+      done = c.in_ok-puts.ensures.done;
+      even = c.in_ok-puts.ensures.put.even;
+      from_is = c.max-from.ensures;
+      own_is = c.in-Ok.ensures.own
+          ∙ ap (λ n. old.seen.own ++ numbers_on from n)
+          (c.stored.ensures ∙ ap stored_in c.as_slice.ensures);
+      next_is = omega (
+        arith,
+        c.in-Ok.ensures.next,
+        c.stored.ensures,
+        ap stored_in
+            c.as_slice.ensures,
+      );
+    } in
+    lasting_now old new news m was stays turn puts from next own x told
 
 pub returns-in-Ok-clause-left : goal.returns-in-Ok-clause-left
 returns-in-Ok-clause-left g c told =

@@ -13,7 +13,7 @@ use Rattle.cache_api.specs.Cache.{ArePut, AllAfter}
 use Rattle.artifact_store.specs.Pairs.{free_in}
 use Rattle.artifact_store.specs.Outcomes.{outcomes}
 use Rattle.artifact_store.specs.Store as store
-use Rattle.artifact_store.proofs.Fits.{are_put_less}
+use Rattle.artifact_store.specs.Fits.{are_put_less}
 use Rattle.shared_runs.specs.Others.{with_pairs}
 use Rattle.shared_runs.proofs.Appending.{room_is}
 use Rattle.shared_runs.proofs.Ending.{some_of, passes_err}
@@ -235,8 +235,8 @@ some_behind : {H D : Type 0} (G : Ghosts H D) (K : DeviceGhosts D) (old end : H)
     (news : List Pair) → IsTrue (store.state_of s).whole → K.tells
     → store.frames_of s ≡ G.coming old → G.content end ≡ K.content (store.device_of n)
     → {T : Type 0} → (answer : Result T CacheErr)
-    → AllAfter answer (pairs_in (store.frames_of s)) (chosen news (store.stores s news))
-    (pairs_in (store.frames_of n))
+    → AllAfter answer (store.state_of s).lasting (store.state_of s).pairs
+    (chosen news (store.stores s news)) (store.state_of n).pairs
     → HoldsSomePut (length (frames_of (G.content old))) (G.coming old)
     (put_behind (G.coming old) news) (G.content end)
 some_behind G K old end s n news whole told frames given answer after =

@@ -1,20 +1,24 @@
 -- What becomes of pairs that are put, and the room that they want.
-use Rattle.std.proofs.Common.{◌≡◌, ℕ, zero, suc, ◌+◌, ◌-◌, ◌<◌, ◌≤◌, Bool, true, false, cond, List, [], ◌∷◌, ◌++◌, map, refl, sym, ◌∙◌, ap, arith}
-use Rattle.std.specs.Prelude.{◌&&◌, nat_le}
+use Rattle.std.proofs.Common.{◌≡◌, ℕ, zero, suc, ◌+◌, ◌-◌, ◌<◌, ◌≤◌, Bool, true, false, cond, List, [], ◌∷◌, ◌++◌, map, refl, sym, ◌∙◌, ap, subst, arith}
+use Rattle.std.specs.Prelude.{◌&&◌, nat_le, sum_by}
 use Rattle.std.proofs.lemmas.Bool.{and_parts, lt-ltb, ltb-true, leb-true, leb-false}
 use Rattle.std.proofs.lemmas.List.{length-map}
 use Rattle.codes.specs.Codes.{AreBytes, Each}
 use Rattle.cache_api.specs.declared.puts.Put.{Put}
 use Rattle.cache_api.specs.declared.puts.Put.TheVariants.{Stored, Full}
 use Rattle.cache_api.specs.Pairs.{Pair, chosen}
-use Rattle.cache_api.specs.Cache.{ample, ArePut, AreToPut, NoRoomFor, NoRoomBehind}
+use Rattle.cache_api.specs.Cache.{CacheState, due_in, ample, ArePut, AreToPut, NoRoomFor, NoRoomBehind}
+use Rattle.cache_api.proofs.Firsts.{none_due}
+use Rattle.store_dev.specs.declared.device.StoreDevice.{Ghosts}
 use Rattle.record_log.specs.Kinds.{Entry}
 use Rattle.pair_frames.specs.Laws.{AreTexts, AllPut}
 use Rattle.pair_frames.specs.Puts.{put_frames, put_size, fit, kept}
 use Rattle.pair_frames.proofs.Sizes.{size_ample}
 use Rattle.pair_frames.proofs.Several.{several_even}
 use Rattle.pair_writer.specs.Putting.{put_of}
+use Rattle.artifact_store.specs.declared.store.Store.{Store}
 use Rattle.artifact_store.specs.Outcomes.{are_bytes, are_texts, outcomes}
+use Rattle.artifact_store.specs.Store.{frames_of, state_of, stores}
 
 -- ---- texts
 
@@ -84,20 +88,30 @@ all_stored : (pairs : List Pair) (room taken : ℕ) → NoRoomBehind room taken 
 all_stored [] room taken = tt
 all_stored (p ∷ pairs) room taken = all_stored pairs room (taken + ample p)
 
-to_put_by : (b : Bool) (room : ℕ) (fs : List Entry) (pairs : List Pair) → (b ≡ true → Each AreTexts pairs)
-    → AreToPut room pairs (cond b (map put_of (fit room fs pairs)) (map (λ (p : Pair). Stored) pairs))
-to_put_by true room fs pairs texts = record {
-  even = length-map (fit room fs pairs) put_of ∙ several_even pairs room fs;
-  full = no_room pairs room 0 room fs (texts refl) (omega arith);
+to_put_by : {B : Type 0} (state : CacheState B) (b : Bool) (left : ℕ) (fs : List Entry) (pairs : List Pair)
+    → due_in state ≡ [] → state.room ≤ left → (b ≡ true → Each AreTexts pairs)
+    → AreToPut state pairs (cond b (map put_of (fit left fs pairs)) (map (λ (p : Pair). Stored) pairs))
+to_put_by state true left fs pairs none le texts = record {
+  even = length-map (fit left fs pairs) put_of ∙ several_even pairs left fs;
+  full = subst (λ (due : List Pair). NoRoomBehind state.room (sum_by ample due) pairs (map put_of (fit left fs pairs)))
+      (sym none) (no_room pairs state.room 0 left fs (texts refl) (omega (arith, le)));
 }
-to_put_by false room fs pairs texts = record {
+to_put_by state false left fs pairs none le texts = record {
   even = length-map pairs (λ (p : Pair). Stored);
-  full = all_stored pairs room 0;
+  full = all_stored pairs state.room (sum_by ample (due_in state));
 }
 
-pub are_to_put : (room : ℕ) (fs : List Entry) (pairs : List Pair) → AreToPut room pairs (outcomes room fs pairs)
+-- where nothing is due and there is no more room than these frames leave, pairs find all that there is
+pub room_to_put : {B : Type 0} (state : CacheState B) (left : ℕ) (fs : List Entry) (pairs : List Pair)
+    → due_in state ≡ [] → state.room ≤ left → AreToPut state pairs (outcomes left fs pairs)
 unfolding outcomes
-are_to_put room fs pairs = to_put_by (are_texts pairs) room fs pairs (true_texts pairs)
+room_to_put state left fs pairs none le =
+    to_put_by state (are_texts pairs) left fs pairs none le (true_texts pairs)
+
+pub are_to_put : {S : Type 0} {G : Ghosts S} (store : Store S G) (pairs : List Pair)
+    → AreToPut (state_of store) pairs (stores store pairs)
+are_to_put store pairs =
+    room_to_put (state_of store) (state_of store).room (frames_of store) pairs (none_due (state_of store).pairs) (omega arith)
 
 -- with less room there is none either
 less_room : (puts : List Put) (pairs : List Pair) (room less : ℕ) → less ≤ room → NoRoomFor room pairs puts
