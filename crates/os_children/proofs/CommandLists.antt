@@ -1,8 +1,6 @@
 -- Lists of commands, when one is taken out.
-use Rattle.std.proofs.Common.{◌≡◌, ◌++◌, ◌<◌, ℕ, suc, false, List, [], ◌∷◌, length, map, take, drop, get_or, arith, IsTrue, refl, sym, ap, ◌∙◌, subst, length-append, drop-cons}
-use Rattle.std.specs.Prelude.{Result, Ok, OnOk, Some, None, is_some}
+use Rattle.std.proofs.Common.{◌≡◌, ◌++◌, ◌<◌, ℕ, suc, List, [], ◌∷◌, length, map, take, drop, get_or, arith, IsTrue, refl, sym, ap, ◌∙◌, subst, length-append, drop-cons}
 use Rattle.std.specs.List.{remove}
-use Rattle.std.proofs.Math.Seq.{get_or-append_seam}
 use Rattle.std.proofs.lemmas.List.{take-append-drop, map-append, length-map}
 use Rattle.spawn_dev.specs.declared.command.Command.{Command}
 use Rattle.spawn_dev.specs.Running.{are_distinct}

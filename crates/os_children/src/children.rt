@@ -167,4 +167,12 @@ where
         let place = self.wait(rt, alloc);
         self.running.remove(place).finish()
     }
+
+    /// Whether one has ended that was not taken out yet, as far as that is seen without waiting. What is ready of
+    /// their output is read meanwhile.
+    pub fn has_ended(&mut self, alloc: Global) -> bool
+        ensures { self.new ≡ self.old }
+    {
+        self.watch.has_ended(alloc, self.running.as_mut_slice())
+    }
 }

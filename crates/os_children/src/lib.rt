@@ -6,6 +6,7 @@
 //!
 //! ```text
 //! children.start(rt, alloc, command)?;      // no other may run at its place
+//! children.has_ended(alloc)                 // false, or true once it has; this does not wait
 //! children.take(rt, alloc)                  // (command, Ok(ChildEnd { status: 3, log: "hi\n" }))
 //! children.is_empty()                       // true
 //! ```

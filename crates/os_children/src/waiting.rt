@@ -16,6 +16,12 @@ use std::time::{Clock, Duration};
 /// longer than two of these.
 const LOOK_MILLIS: i32 = 50;
 
+// The longest wait of whoever only asks for an end, in milliseconds.
+const NO_PAUSE: i32 = 0;
+
+// So often it reads from each pipe: what a child wrote, and then the end of the pipe behind that.
+const GLANCES: u32 = 2;
+
 // So often a child that closed its output is asked for its end without a pause: most have ended by then.
 const SPINS: i32 = 100;
 
@@ -153,6 +159,31 @@ impl Watch {
         true
     }
 
+    // Reads from each pipe that is ready, once one is, or once so many milliseconds are over: whether one was.
+    fn read_within<P: OpenProcess + Drop>(
+        &mut self,
+        alloc: Global,
+        running: &mut [Running<P>],
+        most: i32,
+    ) -> io::Result<bool>
+    where
+        P::Stdout: AsRawFd,
+        ensures { map (λ r. r.command) running.new ≡ map (λ r. r.command) running.old }
+    {
+        self.buf.resize(CHUNK, 0)?;
+        let mut asked = asked_of(alloc, running)?;
+        let some_closed = asked.pipes.len() < running.len();
+        let pause = self.millis(some_closed).min(most);
+        poll(asked.pipes.as_mut_slice(), pause)?;
+        let found = read_ready(running, &asked, self.buf.as_mut_slice());
+        self.idle = if found {
+            0
+        } else {
+            self.idle.saturating_add(1)
+        };
+        Ok(found)
+    }
+
     // Waits until something is ready, or for a while, and reads all that is.
     fn turn<R: Clock + Eprint, P: OpenProcess + Drop>(
         &mut self,
@@ -164,16 +195,7 @@ impl Watch {
         P::Stdout: AsRawFd,
         ensures { map (λ r. r.command) running.new ≡ map (λ r. r.command) running.old }
     {
-        self.buf.resize(CHUNK, 0)?;
-        let mut asked = asked_of(alloc, running)?;
-        let some_closed = asked.pipes.len() < running.len();
-        poll(asked.pipes.as_mut_slice(), self.millis(some_closed))?;
-        let found = read_ready(running, &asked, self.buf.as_mut_slice());
-        self.idle = if found {
-            0
-        } else {
-            self.idle.saturating_add(1)
-        };
+        self.read_within(alloc, running, LOOK_MILLIS)?;
         if self.is_due(rt) {
             look_at(running);
             self.progress.show(rt, alloc, running);
@@ -206,6 +228,27 @@ impl Watch {
         }
         self.progress.end(rt);
         0
+    }
+
+    /// Whether one has ended, as far as that is seen without a pause. What is ready is read, and nothing is drawn:
+    /// whoever asks may write on the terminal next.
+    pub fn has_ended<P: OpenProcess + Drop>(
+        &mut self,
+        alloc: Global,
+        running: &mut [Running<P>],
+    ) -> bool
+    where
+        P::Stdout: AsRawFd,
+        ensures { map (λ r. r.command) running.new ≡ map (λ r. r.command) running.old }
+    {
+        for _ in 0..GLANCES {
+            match self.read_within(alloc, running, NO_PAUSE) {
+                Ok(true) => {}
+                Ok(false) => break,
+                Err(_) => return false,
+            }
+        }
+        ended_at(running).is_some()
     }
 
     /// Reads on until one more pipe is closed, which frees its descriptor.

@@ -13,6 +13,9 @@
 //! `.turbo/store.turb`. Limits of files are in bytes, and the bytes of the store count from 0. No
 //! folder with 4,096 components or more is listed.
 //!
+//! Asked whether a command has ended, the world reads what is ready of the output of those that
+//! run, and does not wait; where that cannot be done the answer is no.
+//!
 //! `words` fails with `NotUtf8` where a word is not UTF-8, and `environment` leaves such entries
 //! out; both fail with `OutOfMemory`. A call of a device that fails answers `Failed` and is
 //! counted, in the world for files and commands apart. What failed of files and the store is said

@@ -111,6 +111,10 @@ where
         })
     }
 
+    fn has_ended(&mut self, alloc: Global) -> bool {
+        self.children.has_ended(alloc)
+    }
+
     fn is_idle(&self) -> bool {
         self.children.is_empty()
     }

@@ -1,5 +1,5 @@
 -- A wait of a world in memory, by the command that it takes.
-use Rattle.std.proofs.Common.{◌≡◌, inl, inr, ⊎_elim, ℕ, suc, ◌+◌, ◌-◌, ◌^◌, ◌<◌, min, List, [], ◌∷◌, ◌++◌, length, map, get_or, take, drop, refl, sym, ap, ◌∙◌, subst, arith}
+use Rattle.std.proofs.Common.{◌≡◌, ⊎_elim, ℕ, suc, ◌+◌, ◌-◌, ◌^◌, ◌<◌, min, List, ◌++◌, length, get_or, take, drop, sym, ap, ◌∙◌, subst}
 use Rattle.std.specs.Prelude.{◌↔◌, ◌⊎◌, Result, Ok, Err, IfOk, IsErrOf}
 use Rattle.std.specs.Result.{IsErrAnd}
 use Rattle.std.specs.List.{remove, take-map, drop-map}
@@ -8,7 +8,7 @@ use Rattle.rel_path.specs.Limits.{log_limit}
 use Rattle.tree_dev.specs.Turns.{FailsNext, after}
 use Rattle.tree_dev.specs.declared.error.DevErr.{DevErr}
 use Rattle.tree_dev.specs.declared.error.DevErr.TheVariants.{Failed, OutOfMemory}
-use Rattle.spawn_dev.specs.MemWorld.{ends_of, next_end, next_index, order_of, state_of, turns_of, waits_of, WaitsAsTold}
+use Rattle.spawn_dev.specs.MemWorld.{ends_of, next_end, next_index, state_of, turns_of, waits_of, WaitsAsTold}
 use Rattle.spawn_dev.specs.Progress.{places_in, will_at}
 use Rattle.spawn_dev.specs.World.{ends_at}
 use Rattle.spawn_dev.specs.declared.command.Ended.{Ended}

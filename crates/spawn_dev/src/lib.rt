@@ -15,6 +15,9 @@
 //! A status is 0 to 255: 0 means success, and a command that a signal ended has 255. The log of an
 //! end has at most 64 MiB. Calls of a world in memory count from 0, those of its tree among them.
 //!
+//! [`Spawner::has_ended`] asks without waiting whether there is an end to wait for; in memory there
+//! is none before it is waited for.
+//!
 //! Errors are `Failed`, which the count of faults tells, and `OutOfMemory`. A `start` that fails
 //! starts nothing. A `wait` that fails ends a command too; in memory it fails also where the log
 //! is too long. [`shell_text`] fails for want of memory alone.

@@ -54,6 +54,12 @@ pub trait Spawner: Tree {
         ensures others { KeepsWill (runs self.old) (runs self.new) }
         ensures cause { HasCause (runs self.old).faults (runs self.new).faults result };
 
+    /// Whether a command has ended that was not waited for yet. It does not wait and changes nothing that is told, and
+    /// either answer may come: it is for whoever has something else to do until the next end.
+    fn has_ended(&mut self, alloc: Global) -> bool
+        ensures state { Self.state self.new ≡ Self.state self.old }
+        ensures runs { runs self.new ≡ runs self.old };
+
     /// Whether no command runs.
     fn is_idle(&self) -> bool
         ensures idle { result ≡ true → IsIdle (runs self.now) }

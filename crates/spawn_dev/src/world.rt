@@ -211,6 +211,14 @@ impl Spawner for MemWorld {
         Ok(ended)
     }
 
+    // No command ends before it is waited for.
+    fn has_ended(&mut self, _alloc: Global) -> bool
+        ensures same { self.new ≡ self.old }
+        ensures none { result ≡ false }
+    {
+        false
+    }
+
     fn is_idle(&self) -> bool {
         self.progress.len() == 0
     }
