@@ -78,6 +78,27 @@ HasCauseIn old new OutOfMemory =
     (new.tree ≡ old.tree) × (new.store ≡ old.store) × (old.start ≤ new.start)
     × (new.sink ≡ old.sink)
 
+-- The same of a run. It puts results that are due also after a fault, and then the store's count may
+-- have risen beside.
+abbrev pub HasRunCause : FaultCounts → FaultCounts → Answer → Type 0
+HasRunCause old new (Done status) = new ≡ old
+HasRunCause old new (Refused refusal) = new ≡ old
+HasRunCause old new TreeFault =
+    Rose old.tree new.tree × (old.store ≤ new.store) × (old.start ≤ new.start)
+    × (old.sink ≤ new.sink)
+HasRunCause old new StoreFault =
+    Rose old.store new.store × (new.tree ≡ old.tree) × (old.start ≤ new.start)
+    × (old.sink ≤ new.sink)
+HasRunCause old new StartFault =
+    Rose old.start new.start × (new.tree ≡ old.tree) × (old.store ≤ new.store)
+    × (old.sink ≤ new.sink)
+HasRunCause old new SinkFault =
+    Rose old.sink new.sink × (new.tree ≡ old.tree) × (old.store ≤ new.store)
+    × (old.start ≤ new.start)
+HasRunCause old new OutOfMemory =
+    (new.tree ≡ old.tree) × (old.store ≤ new.store) × (old.start ≤ new.start)
+    × (new.sink ≡ old.sink)
+
 -- no count rose, and none stood at the last value of a u64
 pub record IsQuiet (old new : FaultCounts) : Type 0 where
   pub tree : (new.tree ≤ old.tree) × (old.tree < 2 ^ 64 - 1)

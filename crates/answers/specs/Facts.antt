@@ -11,7 +11,7 @@ use Rattle.run_plan.specs.Answers.{Cause}
 use Rattle.run_plan.specs.Answers.Cause.{Device, Output, Memory}
 use Rattle.answers.specs.declared.answer.Answer.{Answer}
 use Rattle.answers.specs.declared.answer.Answer.TheVariants.{Done, Refused, TreeFault, StoreFault, StartFault, SinkFault, OutOfMemory}
-use Rattle.answers.specs.Answers.{FaultCounts, HasCauseIn, IfDone, IfRefused, IsNoFault}
+use Rattle.answers.specs.Answers.{FaultCounts, HasCauseIn, HasRunCause, IfDone, IfRefused, IsNoFault}
 use Rattle.answers.specs.Answers.{IsNothingBut, IsQuiet, IsDoneOrMemory, Completes}
 use Rattle.answers.specs.Stops.{IfFault, PrintsSome, CutsText, CutsRefusal, StopsEarly}
 
@@ -39,15 +39,33 @@ if_refused OutOfMemory P Q more h = tt
 pub nothing_but : (answer : Answer) (reason other : Refusal) → reason ≡ other → IfDone answer (λ _. ⊥) → IfRefused answer (λ answered. answered ≡ other) → IsNothingBut reason answer
 nothing_but answer reason other same done refused = (done, if_refused answer (λ answered. answered ≡ other) (λ answered. answered ≡ reason) (λ answered is. is ∙ sym same) refused)
 
+-- what a run may answer others may answer that put no results
+pub cause_of_run : (old new : FaultCounts) (answer : Answer) → HasCauseIn old new answer
+    → HasRunCause old new answer
+cause_of_run old new (Done status) h = h
+cause_of_run old new (Refused refusal) h = h
+cause_of_run old new TreeFault h = (h.0, omega (arith, h.1), h.2, h.3)
+cause_of_run old new StoreFault h = h
+cause_of_run old new StartFault h = (h.0, h.1, omega (arith, h.2), h.3)
+cause_of_run old new SinkFault h = (h.0, h.1, omega (arith, h.2), h.3)
+cause_of_run old new OutOfMemory h = (h.0, omega (arith, h.1), h.2, h.3)
+
 -- where no count rose, no fault is answered
+pub no_run_fault : (old new : FaultCounts) (answer : Answer) → HasRunCause old new answer
+    → IsQuiet old new → IsNoFault answer
+no_run_fault old new (Done status) h quiet = tt
+no_run_fault old new (Refused refusal) h quiet = tt
+no_run_fault old new TreeFault h quiet = absurd (omega (arith, h.0, quiet.tree.0, quiet.tree.1))
+no_run_fault old new StoreFault h quiet =
+    absurd (omega (arith, h.0, quiet.store.0, quiet.store.1))
+no_run_fault old new StartFault h quiet =
+    absurd (omega (arith, h.0, quiet.start.0, quiet.start.1))
+no_run_fault old new SinkFault h quiet = absurd (omega (arith, h.0, quiet.sink.0, quiet.sink.1))
+no_run_fault old new OutOfMemory h quiet = tt
+
+-- so it is of others
 pub no_fault : (old new : FaultCounts) (answer : Answer) → HasCauseIn old new answer → IsQuiet old new → IsNoFault answer
-no_fault old new (Done status) h quiet = tt
-no_fault old new (Refused refusal) h quiet = tt
-no_fault old new TreeFault h quiet = absurd (omega (arith, h.0, quiet.tree.0, quiet.tree.1))
-no_fault old new StoreFault h quiet = absurd (omega (arith, h.0, quiet.store.0, quiet.store.1))
-no_fault old new StartFault h quiet = absurd (omega (arith, h.0, quiet.start.0, quiet.start.1))
-no_fault old new SinkFault h quiet = absurd (omega (arith, h.0, quiet.sink.0, quiet.sink.1))
-no_fault old new OutOfMemory h quiet = tt
+no_fault old new answer h = no_run_fault old new answer (cause_of_run old new answer h)
 
 -- where no fault and no refusal is answered, it came to its end, or memory was wanting
 done_or_memory : (answer : Answer) (Reason : Refusal → Type 0) → IsNoFault answer
@@ -60,10 +78,15 @@ done_or_memory StartFault Reason quiet refused none = quiet
 done_or_memory SinkFault Reason quiet refused none = quiet
 done_or_memory OutOfMemory Reason quiet refused none = tt
 
+pub run_completes : (old new : FaultCounts) (answer : Answer) (Reason : Refusal → Type 0)
+    → HasRunCause old new answer → IfRefused answer Reason → Completes old new Reason answer
+run_completes old new answer Reason cause refused quiet none =
+    done_or_memory answer Reason (no_run_fault old new answer cause quiet) refused none
+
 pub completes : (old new : FaultCounts) (answer : Answer) (Reason : Refusal → Type 0)
     → HasCauseIn old new answer → IfRefused answer Reason → Completes old new Reason answer
-completes old new answer Reason cause refused quiet none =
-    done_or_memory answer Reason (no_fault old new answer cause quiet) refused none
+completes old new answer Reason cause =
+    run_completes old new answer Reason (cause_of_run old new answer cause)
 
 -- ---- what was printed
 

@@ -2,7 +2,7 @@
 use Rattle.std.proofs.Common.{◌≡◌, List, Some, [], sym, ◌∙◌, ap, append-nil}
 use Rattle.std.specs.Prelude.{Option}
 use Rattle.cache_api.specs.Pairs.{Pair}
-use Rattle.task_devices.specs.Keeping.{IsFurther}
+use Rattle.runner.specs.Answers.{IsFurther}
 
 pub further_same : {X : Type 0} (says : X → Option (List Pair)) (pairs : List Pair) (image : X)
     → says image ≡ Some pairs → IsFurther pairs (says image)

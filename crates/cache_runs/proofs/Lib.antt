@@ -1,4 +1,6 @@
 mod Further
+mod Losing
+mod Holding
 pub mod Ready
 pub mod Finished
 pub mod Stopped

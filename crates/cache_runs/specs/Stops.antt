@@ -13,11 +13,12 @@ use Rattle.answers.specs.Moments.{MomentOf}
 use Rattle.answers.specs.Stops.{PrintsSome}
 use Rattle.cache_runs.specs.Openings.{IsTrusted, opening_at}
 
--- the run has stopped and left this, and behind its page it has printed some first part of the line
+-- The run has stopped and left this, and behind its page it has printed some first part of the line.
+-- What was still due may be lost.
 abbrev pub StopsOver : Plan → Opening → FileMap → List Pair → ℕ → List Step → Type 0
     → List ℕ → List ℕ → Cause → List ℕ → Type 0
 StopsOver plan o files pairs room steps Heard before after cause line =
-    (printed : List ℕ) × plans.Stopped plan o files pairs room steps cause Heard before printed
+    (printed : List ℕ) × plans.Stopped plan o ⊥ files pairs room steps cause Heard before printed
     × PrintsSome line printed after
 
 -- the torn page of a dry run, and some first part of the line

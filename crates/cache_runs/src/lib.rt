@@ -13,10 +13,12 @@
 //! OutOfMemory           nothing more was printed
 //! ```
 //!
-//! It refuses nothing. The cache has to be one that may be used (`whole`), and is one still after
-//! `Done`. What a run leaves of files, pairs and page is defined in `run_plan`; `specs/` says what
-//! is answered (`Steps`), what a run begins with and is trusted in (`Openings`) and what is left
-//! where it was stopped (`Stops`).
+//! The cache is handed over and handed back. While commands run, results are held back, and several
+//! are put at once. It refuses nothing. The cache has to be one that may be used (`whole`) and in
+//! which nothing is due, and is one still after `Done`. Of a run that was stopped, results that could
+//! not be put any more may be lost. What a run leaves of files, pairs and page is defined in
+//! `run_plan`; `specs/` says what is answered (`Steps`), what a run begins with and is trusted in
+//! (`Openings`) and what is left where it was stopped (`Stops`).
 #![tactic(auto)]
 
 mod running;

@@ -1,2 +1,3 @@
 mod CostFacts
+mod LastFacts
 mod PageFacts

@@ -1,6 +1,6 @@
 // Dry runs.
 ghost use Rattle.std.specs.Prelude.{◌≡◌, ◌+◌, ◌<◌, ◌≤◌, ◌++◌, length, IsTrue, IfOk, IfErr, OnOk};
-ghost use Rattle.cache_api.specs.Cache.{CacheReads};
+ghost use Rattle.cache_api.specs.Cache.{CacheReads, AllLast};
 ghost use Rattle.cache_api.specs.Keys.{text_of};
 ghost use Rattle.run_laws.specs.Keys.{key_of};
 ghost use Rattle.run_plan.specs.Costs.{task_cost, look_up_cost};
@@ -28,6 +28,7 @@ fn mark_of<C: Cache>(
     requires place { place < length plan.now.listing.parts }
     requires key { text_of key ≡ key_of plan.now.listing place }
     requires whole { IsTrue (C.state cache.old).whole }
+    requires last { C.tells → AllLast (C.state cache.old) }
     ensures mark { C.tells → IfOk result (λ mark.
         mark ≡ dry_mark plan.now (C.state cache.old).pairs place) }
     ensures reads { CacheReads C.tells C.state C.cost C.stands C.shows C.moment C.left C.says
@@ -60,6 +61,7 @@ fn block_of<C: Cache>(
     requires plan { IsValidPlan plan.now }
     requires place { place < length plan.now.listing.parts }
     requires whole { IsTrue (C.state cache.old).whole }
+    requires last { C.tells → AllLast (C.state cache.old) }
     ensures text { C.tells → IfOk result (λ text.
         text ≡ dry_block plan.now (C.state cache.old).pairs place) }
     ensures reads { CacheReads C.tells C.state C.cost C.stands C.shows C.moment C.left C.says
@@ -89,6 +91,7 @@ fn put_block<C: Cache, K: Sink>(
     requires plan { IsValidPlan plan.now }
     requires place { place < length plan.now.listing.parts }
     requires whole { IsTrue (C.state cache.old).whole }
+    requires last { C.tells → AllLast (C.state cache.old) }
     ensures put { C.tells → K.tells → OnOk result (K.written out.new
         ≡ K.written out.old ++ dry_block plan.now (C.state cache.old).pairs place) }
     ensures torn { C.tells → K.tells → IfErr result (λ e. IsCut (is_sink_fault e)
@@ -109,8 +112,8 @@ fn put_block<C: Cache, K: Sink>(
 
 /// Says for each task of the plan what a run would do with it: a block with the digits of its
 /// fingerprint, whether the cache holds its result, its script and its direct dependencies. It
-/// starts nothing and puts nothing into the cache, which has to be whole, and looks each task up
-/// once at most.
+/// starts nothing and puts nothing into the cache, which has to be whole with nothing due, and
+/// looks each task up once at most.
 ///
 /// After a fault whole blocks were put, and of the next one some first part.
 pub fn dry<C: Cache, K: Sink>(
@@ -121,6 +124,7 @@ pub fn dry<C: Cache, K: Sink>(
 ) -> Result<(), RunErr>
     requires plan { IsValidPlan plan.now }
     requires whole { IsTrue (C.state cache.old).whole }
+    requires last { C.tells → AllLast (C.state cache.old) }
     ensures page { C.tells → K.tells → OnOk result (K.written out.new
         ≡ K.written out.old ++ dry_page plan.now (C.state cache.old).pairs) }
     ensures torn { C.tells → K.tells → IfErr result (λ e.

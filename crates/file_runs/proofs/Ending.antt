@@ -22,7 +22,8 @@ use Rattle.shared_runs.specs.Shared.{left_of}
 use Rattle.shared_runs.specs.Views.{pairs_at, view_of}
 use Rattle.shared_runs.proofs.Ending.{some_of}
 use Rattle.answers.specs.declared.answer.Answer.{Answer}
-use Rattle.answers.specs.Answers.{HasCauseIn, counts_of}
+use Rattle.answers.specs.Answers.{HasCauseIn, HasRunCause, counts_of}
+use Rattle.answers.specs.Facts.{cause_of_run}
 use Rattle.answers.specs.Moments.{Moment}
 use Rattle.file_runs.specs.Causes.{HasCauseOver}
 use Rattle.file_runs.specs.Images.{IsOneOrAddedTo, StaysSound}
@@ -41,13 +42,13 @@ moved T p q a b r s one two three t =
 -- the same of the count of the store alone
 counted : {told : Type 0} (t s k u v w a b c d damaged : ℕ) (answer : Answer)
     → (told → damaged ≡ 0) → a ≡ b → c ≡ d + damaged
-    → HasCauseIn (counts_of t a s k) (counts_of u c v w) answer
+    → HasRunCause (counts_of t a s k) (counts_of u c v w) answer
     → HasCauseOver told (counts_of t b s k) (counts_of u d v w) answer
 counted t s k u v w a b c d damaged answer never one two cause = record {
   damaged = damaged;
   never = never;
-  cause = subst (λ (n : ℕ). HasCauseIn (counts_of t b s k) (counts_of u n v w) answer) two
-      (subst (λ (n : ℕ). HasCauseIn (counts_of t n s k) (counts_of u c v w) answer) one cause);
+  cause = subst (λ (n : ℕ). HasRunCause (counts_of t b s k) (counts_of u n v w) answer) two
+      (subst (λ (n : ℕ). HasRunCause (counts_of t n s k) (counts_of u c v w) answer) one cause);
 }
 
 -- where it was not opened it has no damage
@@ -55,7 +56,8 @@ pub cause_unopened : {told : Type 0} (t s k w b d : ℕ) (answer : Answer)
     → HasCauseIn (counts_of t b s k) (counts_of t d s w) answer
     → HasCauseOver told (counts_of t b s k) (counts_of t d s w) answer
 cause_unopened t s k w b d answer cause =
-    counted t s k t s w b b d d 0 answer (λ told. refl) refl (omega arith) cause
+    counted t s k t s w b b d d 0 answer (λ told. refl) refl (omega arith)
+    (cause_of_run (counts_of t b s k) (counts_of t d s w) answer cause)
 
 -- an image that the file had, or that has the first of the frames to come, is sound where all were
 one_sound : (images : List ℕ → Type 0) (file c : List ℕ) (coming : List Entry)
@@ -68,7 +70,7 @@ module _ {H D : Type 0} {G : Ghosts H D} {K : DeviceGhosts D} (file : H)
     (mid new : SharedStore H D G K) (opened : IsOpened G K file mid)
     (keeps : Keeps (state_of mid) (state_of new)) (end : H) (given : end ≡ new.turns.shared) where
   pub cause_end : (t s k u v w : ℕ) (answer : Answer)
-      → HasCauseIn (counts_of t (state_of mid).faults s k)
+      → HasRunCause (counts_of t (state_of mid).faults s k)
       (counts_of u (state_of new).faults v w) answer
       → HasCauseOver K.tells (counts_of t (G.store_faults file) s k)
       (counts_of u (G.store_faults end) v w) answer

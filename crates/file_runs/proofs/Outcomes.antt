@@ -23,8 +23,7 @@ use Rattle.run_plan.specs.Answers.{Ran, IsSafe}
 use Rattle.run_plan.specs.DryPages.{dry_page}
 use Rattle.run_plan.specs.Openings.{Opening, setting_of, HoldsInputs}
 use Rattle.run_plan.specs.Plans.{IsValidPlan}
-use Rattle.runner.specs.Answers.{HasSafePairs}
-use Rattle.task_devices.specs.Keeping.{IsFurther}
+use Rattle.runner.specs.Answers.{HasSafePairs, IsFurther}
 use Rattle.answers.specs.declared.answer.Answer.{Answer}
 use Rattle.answers.specs.Answers.{IfDone}
 use Rattle.answers.specs.Facts.{if_fault, within}

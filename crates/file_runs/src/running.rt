@@ -93,8 +93,7 @@ pub fn run_shared<W: Spawner, H: Shared, K: Sink>(
 {
     match SharedStore::open(alloc, shared) {
         Ok(opened) => {
-            let mut cache = opened;
-            let answer = run_over(alloc, is_dry, plan, world, &mut cache, out);
+            let (answer, cache) = run_over(alloc, is_dry, plan, world, opened, out);
             (answer, cache.shared())
         }
         Err(Unopened { fault, store }) => {

@@ -204,7 +204,7 @@ module _ (plan : Plan) (law : StoryLaw) (old new : Board) (core : new.core ≡ o
       λ u d. ap (λ f. f u) logs ∙ (rw (ne_eqb u old.shown d) refl) in
       become plan o (with_board now old)
       (record (with_board now old) { logs = log_in new.logs; shown = old.shown + 1 })
-      (with_board now new) stands (ap states (sym core)) refl refl refl refl refl refl
+      (with_board now new) stands (ap states (sym core)) refl refl refl refl refl refl refl
       (ap report_in (sym reports)) refl (sym shown)
       (law.shown plan o (with_board now old) (log_in new.logs) stands other)
 

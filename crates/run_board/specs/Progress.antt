@@ -18,16 +18,17 @@ use Rattle.run_plan.specs.StoryLaws.{Stands, blocks_upto}
 use Rattle.run_board.specs.declared.board.Board.{Board}
 use Rattle.run_board.specs.Tables.{log_in}
 
--- how far a run is, by its tables, its world, its pairs and its room
+-- how far a run is, by its tables, its world, its pairs, how many of these last, and its room
 abbrev pub now_at : {B R : Type 0} → Board → (B → Seen → Effect) → Runs B → TreeState R
-    → List Pair → ℕ → Now
-now_at board effect world tree pairs room = record {
+    → List Pair → ℕ → ℕ → Now
+now_at board effect world tree pairs lasting room = record {
   states = states board.core;
   book = effect world.book;
   steps = world.steps;
   will = world.will;
   files = tree.files;
   pairs = pairs;
+  lasting = lasting;
   room = room;
   reports = report_in board.reports;
   logs = log_in board.logs;
@@ -37,7 +38,8 @@ now_at board effect world tree pairs room = record {
 -- the same by its cache
 abbrev pub now_of : {B R D : Type 0} → Board → (B → Seen → Effect) → Runs B → TreeState R
     → CacheState D → Now
-now_of board effect world tree cache = now_at board effect world tree cache.pairs cache.room
+now_of board effect world tree cache =
+    now_at board effect world tree cache.pairs cache.lasting cache.room
 
 -- the same with these tables
 abbrev pub with_board : Now → Board → Now

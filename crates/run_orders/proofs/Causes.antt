@@ -1,7 +1,8 @@
 -- Counts of faults of several devices, of which some were left alone.
 use Rattle.std.proofs.Common.{◌≡◌, ◌+◌, ℕ, refl, subst, arith}
 use Rattle.answers.specs.declared.answer.Answer.{Answer}
-use Rattle.answers.specs.Answers.{FaultCounts, HasCauseIn, counts_of}
+use Rattle.answers.specs.Answers.{FaultCounts, HasCauseIn, HasRunCause, counts_of}
+use Rattle.answers.specs.Facts.{cause_of_run}
 use Rattle.cache_runs.proofs.Causes.{cause_in_sum}
 use Rattle.file_runs.specs.Causes.{HasCauseOver}
 use Rattle.run_orders.specs.Causes.{HasCauseBy}
@@ -22,12 +23,13 @@ over_in_sum told t u s v k l a b other x y r p q h = record {
 -- where no turn was taken, none found that the file is no store any more
 pub cause_by : (uses : Uses) (told : Type 0) (old new : FaultCounts) (answer : Answer)
     → HasCauseIn old new answer → HasCauseBy uses told old new answer
-cause_by Current told old new answer h = h
-cause_by Second told old new answer h = h
+cause_by Current told old new answer h = cause_of_run old new answer h
+cause_by Second told old new answer h = cause_of_run old new answer h
 cause_by Shared told old new answer h =
     let same : new.store ≡ new.store + 0 = omega arith in
     record {
       damaged = 0;
       never = λ _. refl;
-      cause = subst (λ (n : ℕ). HasCauseIn old (record new { store = n }) answer) same h;
+      cause = subst (λ (n : ℕ). HasRunCause old (record new { store = n }) answer) same
+          (cause_of_run old new answer h);
     }

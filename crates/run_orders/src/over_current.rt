@@ -8,7 +8,7 @@ ghost use Rattle.compact.specs.Left.{IsReread};
 ghost use Rattle.run_plan.specs.Answers.{SameElsewhere};
 ghost use Rattle.run_plan.specs.Openings.{HoldsInputs};
 ghost use Rattle.run_plan.specs.Plans.{IsValidPlan};
-ghost use Rattle.answers.specs.Answers.{IfDone, IfRefused, HasCauseIn, counts_at};
+ghost use Rattle.answers.specs.Answers.{IfDone, IfRefused, HasRunCause, counts_at};
 ghost use Rattle.answers.specs.Stops.{IfFault};
 ghost use Rattle.store_answers.specs.Refused.{IsNoStores};
 ghost use Rattle.second_runs.specs.Images.{AddsTo, LeavesPairs};
@@ -92,7 +92,7 @@ pub(crate) fn run_current<W: Spawner, S: StoreDevice, P: StoreDevice, K: Sink>(
         (IsLeftByPlan is_dry (W.effect (W.runs world.old).book) plan.now
         (at_moment W.state W.runs S.content P.content K.written world.old store spare out.old)
         (W.runs world.new).steps (S.images store) (P.images spare)) }
-    ensures cause { HasCauseIn
+    ensures cause { HasRunCause
         (counts_at (W.state world.old) (W.runs world.old)
         (S.store_faults store + P.store_faults spare) (K.faults out.old))
         (counts_at (W.state world.new) (W.runs world.new)

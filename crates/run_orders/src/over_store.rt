@@ -8,9 +8,8 @@ ghost use Rattle.artifact_store.specs.Store.{device_of, state_of};
 ghost use Rattle.run_plan.specs.Answers.{SameElsewhere};
 ghost use Rattle.run_plan.specs.Openings.{HoldsInputs};
 ghost use Rattle.run_plan.specs.Plans.{IsValidPlan};
-ghost use Rattle.runner.specs.Answers.{opening_of};
-ghost use Rattle.task_devices.specs.Keeping.{IsFurther};
-ghost use Rattle.answers.specs.Answers.{IfDone, IfRefused, HasCauseIn, counts_at};
+ghost use Rattle.runner.specs.Answers.{IsFurther, opening_of};
+ghost use Rattle.answers.specs.Answers.{IfDone, IfRefused, HasRunCause, counts_at};
 ghost use Rattle.second_runs.specs.Images.{AddsTo};
 ghost use Rattle.run_orders.specs.Images.{IsLeftByRun, IsLeftInStore, IsTrustedPlan};
 ghost use Rattle.run_orders.specs.Outcomes.{RanAs};
@@ -30,6 +29,7 @@ use cache_runs::run_over;
 use record_log::Unopened;
 use refusals::StoreFile;
 use run_plan::Plan;
+use second_runs::open_for_plan;
 use spawn_dev::Spawner;
 use std::alloc::Global;
 use store_answers::unopened;
@@ -81,14 +81,13 @@ fn run_store<W: Spawner, S: StoreDevice, K: Sink>(
         → LeavesOnly S.moment S.images_since (device_of store) result.1 (λ c. IsLeftByRun is_dry
         plan.now (opening_of W.effect (W.runs world.old) (W.state world.old) (state_of store))
         (W.runs world.new).steps (told_as (state_of store).base c)) }
-    ensures cause { HasCauseIn
+    ensures cause { HasRunCause
         (counts_at (W.state world.old) (W.runs world.old) (state_of store).faults
         (K.faults out.old))
         (counts_at (W.state world.new) (W.runs world.new) (S.store_faults result.1)
         (K.faults out.new)) result.0 }
 {
-    let mut cache = store;
-    let answer = run_over(alloc, is_dry, plan, world, &mut cache, out);
+    let (answer, cache) = run_over(alloc, is_dry, plan, world, store, out);
     (answer, cache.device())
 }
 
@@ -149,13 +148,13 @@ pub(crate) fn run_plan<W: Spawner, S: StoreDevice, K: Sink>(
         (moment_of (W.state world.old) (W.runs world.old) (held_by (S.content store))
         (K.written out.old))
         (W.runs world.new).steps (generation_in (S.content store)) (S.images store)) }
-    ensures cause { HasCauseIn
+    ensures cause { HasRunCause
         (counts_at (W.state world.old) (W.runs world.old) (S.store_faults store)
         (K.faults out.old))
         (counts_at (W.state world.new) (W.runs world.new) (S.store_faults result.1)
         (K.faults out.new)) result.0 }
 {
-    match Store::open(alloc, store) {
+    match open_for_plan(alloc, plan, store) {
         Ok(opened) => run_store(alloc, is_dry, plan, world, opened, out),
         Err(Unopened { fault, store }) => (unopened(alloc, file, fault, out), store),
     }

@@ -28,7 +28,7 @@ use Rattle.task_devices.specs.declared.error.RunErr.{RunErr}
 use Rattle.task_devices.specs.declared.error.RunErr.TheVariants.{TreeFault, StoreFault, StartFault, SinkFault, OutOfMemory}
 use Rattle.task_devices.specs.Stops.{faults_of, StopsBy}
 use Rattle.runner.specs.Answers.{AllEnd, Grows, begins_at, ends_at, is_start_fault}
-use Rattle.runner.specs.Halting.{HaltsNow, WaitsFor}
+use Rattle.runner.specs.Halting.{HaltsAt, WaitsFor}
 use Rattle.runner.proofs.CacheFacts.{grows-same}
 use Rattle.runner.proofs.HaltFacts.{gone}
 use Rattle.runner.proofs.WorldFacts.{there-is}
@@ -160,11 +160,12 @@ second-true false b none h = h
 
 -- where each command that started has an end, each that still ran has one among the last steps
 pub ends-late : {B : Type 0} (law : HaltLaw) (plan : Plan) (o : Opening) (now : Now)
-    (world : Runs B) (files : FileMap) (pairs : List Pair) (room : ℕ) (last : List Told)
-    (late : List Told) → Stands plan o now → HaltsNow plan o now world files pairs room
+    (least : ℕ) (world : Runs B) (files : FileMap) (pairs : List Pair) (room : ℕ)
+    (last : List Told) (late : List Told) → Stands plan o now
+    → HaltsAt plan o now least world files pairs room
     → last ≡ world.steps ++ late → AllEnd o.steps last → (t : ℕ) → live world t ≡ true
     → list_any (ends_at t) late ≡ true
-ends-late law plan o now world files pairs room last late stands halts steps all t lives =
+ends-late law plan o now least world files pairs room last late stands halts steps all t lives =
     let s = setting_of plan o in
     let runs_on = halts.runs t lives in
     let runs = law.runs plan o now t stands runs_on.running in

@@ -73,13 +73,13 @@ module _ {B R : Type 0} (plan : Plan) (valid : IsValidPlan plan) (board : Board)
 -- the end as the story has it
 pub ends-now : {B R : Type 0} (plan : Plan) (valid : IsValidPlan plan) (board : Board)
     (is : IsBoard plan board) (effect : B → Seen → Effect) (old mid : Runs B) (tree : TreeState R)
-    (files : FileMap) (pairs : List Pair) (room : ℕ) (step : InStep plan (states board.core) old)
-    (end : Ended) (sound : Bool) → IsCalm (rules_of plan) (states board.core)
+    (files : FileMap) (pairs : List Pair) (lasting room : ℕ)
+    (step : InStep plan (states board.core) old) (end : Ended) (sound : Bool) → IsCalm (rules_of plan) (states board.core)
     → IsOver end.place old mid tree.files files → EndsAs end old mid tree.files files
     → sound ≡ list_all (flag_in board.good) (part_at plan.listing end.place).deps
-    → EndsNow plan (now_at board effect old tree pairs room) end sound
-ends-now plan valid board is effect old mid tree files pairs room step end sound calm over ends
-    sound_is =
+    → EndsNow plan (now_at board effect old tree pairs lasting room) end sound
+ends-now plan valid board is effect old mid tree files pairs lasting room step end sound calm over
+    ends sound_is =
     let st = states board.core in
     let running = ended-runs plan valid st old end.place over.command step over.ran in
     record {

@@ -1,5 +1,7 @@
+mod AskFacts
 mod CacheFacts
 mod CostFacts
+mod DueFacts
 mod WorldFacts
 mod HeldFacts
 mod FileFacts
@@ -10,3 +12,4 @@ mod EndFacts
 mod DrainFacts
 mod RoundFacts
 mod FinishFacts
+mod LateFacts

@@ -1,9 +1,9 @@
 -- Turns and rounds, one after another, and how a run begins.
-use Rattle.std.proofs.Common.{◌≡◌, ℕ, ◌<◌, Bool, true, false, List, [], ◌∷◌, ◌++◌, refl, sym, ap, ◌∙◌, subst, arith, inl, append_assoc, append-nil, None}
+use Rattle.std.proofs.Common.{◌≡◌, ℕ, ◌<◌, Bool, true, false, List, [], ◌∷◌, ◌++◌, length, refl, sym, ap, ◌∙◌, subst, arith, inl, append_assoc, append-nil, None}
 use Rattle.std.proofs.lemmas.Bool.{true≢false, false≢true}
 use Rattle.std.proofs.lemmas.List.{append_cancel_left}
 use Rattle.tree_dev.specs.Tree.{TreeState}
-use Rattle.cache_api.specs.Cache.{CacheState}
+use Rattle.cache_api.specs.Cache.{CacheState, AllLast}
 use Rattle.spawn_dev.specs.declared.effect.Effect.{Effect}
 use Rattle.spawn_dev.specs.Effects.{Seen}
 use Rattle.spawn_dev.specs.Spawn.{Runs, IsIdle}
@@ -19,6 +19,7 @@ use Rattle.run_plan.specs.Plans.{IsValidPlan}
 use Rattle.run_plan.specs.Reports.{report_in}
 use Rattle.run_plan.specs.Stories.{Now, is_settled}
 use Rattle.run_plan.specs.StoryLaws.{Stands, StoryLaw, blocks_upto}
+use Rattle.task_devices.proofs.KeepFacts.{same_first}
 use Rattle.run_board.specs.declared.board.Board.{Board}
 use Rattle.runner.specs.Answers.{Grows, opening_of}
 use Rattle.run_board.specs.Boards.{IsBoard, IsRound, IsTurn, IsUpToDate, KeepsSettled, ShowsSettled}
@@ -134,6 +135,7 @@ module _ {B R D : Type 0} (plan : Plan) (law : StoryLaw) (valid : IsValidPlan pl
     will = world.will;
     files = o.files;
     pairs = o.pairs;
+    lasting = length o.pairs;
     room = cache.room;
     reports = λ t. None;
     logs = λ t. [];
@@ -147,21 +149,29 @@ module _ {B R D : Type 0} (plan : Plan) (law : StoryLaw) (valid : IsValidPlan pl
     story = law.first plan o world.will cache.room (λ t. []);
   }
 
-  pub halts-zero : HaltLaw → IsIdle world → HaltsNow plan o zero world tree.files cache.pairs cache.room
-  halts-zero halts idle = record {
-    late = [];
-    halts = halts.before_end plan o zero tree.files cache.room stands-zero
-        (undone-same plan zero.states tree.files tree.files refl) (omega arith);
-    runs = λ t lives. absurd (true≢false (sym lives ∙ idle t));
+  pub halts-zero : HaltLaw → IsIdle world → AllLast cache → (Kept : Type 0)
+      → HaltsNow plan o zero world tree.files cache.pairs cache.lasting cache.room Kept
+  halts-zero halts idle last Kept = record {
+    least = length cache.pairs;
+    halts = record {
+      late = [];
+      halts = halts.before_end plan o zero (length cache.pairs) tree.files cache.pairs cache.room
+          stands-zero (undone-same plan zero.states tree.files tree.files refl) (omega arith)
+          (omega arith) (same_first (length cache.pairs) cache.pairs cache.pairs refl)
+          (omega arith);
+      runs = λ t lives. absurd (true≢false (sym lives ∙ idle t));
+    };
+    all = λ kept. omega arith;
+    lasts = omega (arith, last);
   }
 
-  module _ (board : Board) (waits : states board.core ≡ (λ t. Waiting))
+  module _ (last : AllLast cache) (board : Board) (waits : states board.core ≡ (λ t. Waiting))
       (none : report_in board.reports ≡ (λ t. None)) (shown : board.shown ≡ 0) where
     pub stands-first : Stands plan o (now_of board effect world tree cache)
     stands-first =
         become plan o zero (record zero { logs = log_in board.logs })
-        (now_of board effect world tree cache) stands-zero (sym waits) refl refl refl refl refl refl
-        (sym none) refl (sym shown) (law.first plan o world.will cache.room (log_in board.logs))
+        (now_of board effect world tree cache) stands-zero (sym waits) refl refl refl refl refl
+        (sym last) refl (sym none) refl (sym shown) (law.first plan o world.will cache.room (log_in board.logs))
 
     pub page-first : (before : List ℕ)
         → PageIs plan o (now_of board effect world tree cache) before before

@@ -1,8 +1,9 @@
 -- What a run is asked and answers.
 use Rattle.std.specs.Prelude.{◌≡◌, ℕ, ◌==◌, Bool, true, false, List, ◌++◌, Option, Some}
 use Rattle.std.specs.List.{list_any}
+use Rattle.rel_path.specs.Causes.{Rose}
 use Rattle.tree_dev.specs.Tree.{TreeState}
-use Rattle.cache_api.specs.Cache.{CacheState}
+use Rattle.cache_api.specs.Cache.{CacheState, AllLast}
 use Rattle.cache_api.specs.Moments.{Moment, Leaves}
 use Rattle.cache_api.specs.Pairs.{Pair}
 use Rattle.spawn_dev.specs.declared.command.Step.{Step as Told}
@@ -13,8 +14,7 @@ use Rattle.spawn_dev.specs.Spawn.{Runs}
 use Rattle.run_plan.specs.declared.plan.Plan.{Plan}
 use Rattle.run_plan.specs.Answers.{IsSafe}
 use Rattle.run_plan.specs.Openings.{Opening}
-use Rattle.task_devices.specs.Keeping.{IsFurther}
-use Rattle.task_devices.specs.Stops.{Faults, faults_of}
+use Rattle.task_devices.specs.Stops.{Faults, faults_of, is_sink_fault}
 use Rattle.task_devices.specs.declared.error.RunErr.{RunErr}
 use Rattle.task_devices.specs.declared.error.RunErr.TheVariants.{TreeFault, StoreFault, StartFault, SinkFault, OutOfMemory}
 pub use Rattle.run_board.specs.Causes.{cause_of}
@@ -41,7 +41,23 @@ is_start_fault StartFault = true
 is_start_fault SinkFault = false
 is_start_fault OutOfMemory = false
 
+-- ---- what was due
+
+-- No result that was due was lost: it was the output that failed, and the cache did not.
+pub record NoneLost (error : RunErr) (before now : ℕ) : Type 0 where
+  pub output : is_sink_fault error ≡ true
+  pub calm : Rose before now → ⊥
+
+-- Of a run that answered this error all results were put that were due.
+pub record IsSettled {D : Type 0} (error : RunErr) (old new : CacheState D) : Type 0 where
+  pub kept : NoneLost error old.faults new.faults
+  pub last : AllLast new
+
 -- ---- at each moment
+
+-- what an image is said to stand for are the pairs, and perhaps some behind them
+abbrev pub IsFurther : List Pair → Option (List Pair) → Type 0
+IsFurther pairs said = (more : List Pair) × (said ≡ Some (pairs ++ more))
 
 -- these, and more behind them
 abbrev pub Grows : {X : Type 0} → List X → List X → Type 0

@@ -1,5 +1,5 @@
 -- What calls of a run leave, whatever they answer, and what a run leaves that stops.
-use Rattle.std.specs.Prelude.{◌≡◌, ℕ, true, false, List, ◌++◌, Option}
+use Rattle.std.specs.Prelude.{◌≡◌, ℕ, ◌≤◌, true, false, List, ◌++◌, length, Option}
 use Rattle.std.specs.List.{list_any}
 use Rattle.rel_path.specs.Files.{FileMap}
 use Rattle.tree_dev.specs.Tree.{TreeState}
@@ -17,7 +17,8 @@ use Rattle.run_plan.specs.Halts.{HaltsWith}
 use Rattle.run_plan.specs.Openings.{Opening}
 use Rattle.run_plan.specs.Stories.{Now, notes_in}
 use Rattle.run_plan.specs.StoryLaws.{Stands}
-use Rattle.runner.specs.Answers.{Grows, LeavesFurther, ends_at}
+use Rattle.task_devices.specs.Keeping.{LastOn}
+use Rattle.runner.specs.Answers.{Grows, ends_at}
 use Rattle.run_board.specs.Progress.{PageIs}
 use Rattle.runner.specs.Running.{AreOurs}
 
@@ -31,13 +32,12 @@ pub record WorldGoes {B R : Type 0} (tells : Type 0) (plan : Plan) (old new : Ru
   pub further : tells → Grows old.steps new.steps
   pub elsewhere : tells → SameElsewhere plan before.files after.files
 
--- Pairs are only added to the cache, at each moment.
+-- The pairs of the cache that lasted last on, at each moment.
 pub record CacheGoes {D S X : Type 0} (tells : Type 0) (state : S → CacheState D)
     (moment : S → Moment) (left : S → Moment → X → Type 0) (says : D → X → Option (List Pair))
     (old new : S) : Type 0 where
   pub keeps : Keeps (state old) (state new)
-  pub grows : tells → Grows (state old).pairs (state new).pairs
-  pub images : tells → LeavesFurther state moment left says old new
+  pub lasts : tells → LastOn state moment left says old new
 
 -- ---- a run that stops
 
@@ -49,34 +49,46 @@ pub record StillRuns {B : Type 0} (now : Now) (late : List Step) (world : Runs B
   pub unended : ended late t ≡ false
   pub will : world.will t ≡ now.will t
 
--- A run that came this far has stopped, and some of its commands may still run.
-pub record HaltsNow {B : Type 0} (plan : Plan) (o : Opening) (now : Now) (world : Runs B)
-    (files : FileMap) (pairs : List Pair) (room : ℕ) : Type 0 where
+-- A run that came this far has stopped, and some of its commands may still run. Of the pairs that
+-- stood there then at least so many are left.
+pub record HaltsAt {B : Type 0} (plan : Plan) (o : Opening) (now : Now) (least : ℕ)
+    (world : Runs B) (files : FileMap) (pairs : List Pair) (room : ℕ) : Type 0 where
   pub late : List Step
-  pub halts : HaltsWith plan o now files pairs room world.steps late
+  pub halts : HaltsWith plan o now least files pairs room world.steps late
   pub runs : (t : ℕ) → live world t ≡ true → StillRuns now late world t
 
+-- Some of them are left, among these all that lasted, and all of them where none was lost, which
+-- `Kept` says.
+pub record HaltsNow {B : Type 0} (plan : Plan) (o : Opening) (now : Now) (world : Runs B)
+    (files : FileMap) (pairs : List Pair) (lasting room : ℕ) (Kept : Type 0) : Type 0 where
+  pub least : ℕ
+  pub halts : HaltsAt plan o now least world files pairs room
+  pub all : Kept → length now.pairs ≤ least
+  pub lasts : now.lasting ≤ lasting
+
 -- so does each run that came this far
-abbrev pub HaltsFrom : {B : Type 0} → Plan → Now → Runs B → FileMap → List Pair → ℕ → Type 0
-HaltsFrom plan now world files pairs room =
-    (o : Opening) → Stands plan o now → HaltsNow plan o now world files pairs room
+abbrev pub HaltsFrom : {B : Type 0} → Plan → Now → Runs B → FileMap → List Pair → ℕ → ℕ → Type 0
+    → Type 0
+HaltsFrom plan now world files pairs lasting room Kept =
+    (o : Opening) → Stands plan o now
+    → HaltsNow plan o now world files pairs lasting room Kept
 
 -- The run has stopped where it came last, and its page is torn there.
 pub record StopsNow {B : Type 0} (plan : Plan) (o : Opening) (world : Runs B) (files : FileMap)
-    (pairs : List Pair) (room : ℕ) (cause : Cause) (Heard : Type 0) (before after : List ℕ)
-    : Type 0 where
+    (pairs : List Pair) (lasting room : ℕ) (Kept : Type 0) (cause : Cause) (Heard : Type 0)
+    (before after : List ℕ) : Type 0 where
   pub now : Now
   pub stands : Stands plan o now
-  pub halts : HaltsNow plan o now world files pairs room
+  pub halts : HaltsNow plan o now world files pairs lasting room Kept
   pub page_is : Heard → IsTornPage plan o now.states (notes_in now.reports) cause before after
 
 -- so does each run that came this far and printed this
-abbrev pub StopsFrom : {B : Type 0} → Plan → Now → Runs B → FileMap → List Pair → ℕ → Cause
-    → Type 0 → List ℕ → List ℕ → Type 0
-StopsFrom plan now world files pairs room cause Heard written after =
+abbrev pub StopsFrom : {B : Type 0} → Plan → Now → Runs B → FileMap → List Pair → ℕ → ℕ → Type 0
+    → Cause → Type 0 → List ℕ → List ℕ → Type 0
+StopsFrom plan now world files pairs lasting room Kept cause Heard written after =
     (o : Opening) (before : List ℕ) → Stands plan o now
     → (Heard → PageIs plan o now before written)
-    → StopsNow plan o world files pairs room cause Heard before after
+    → StopsNow plan o world files pairs lasting room Kept cause Heard before after
 
 -- All that ran was waited for: where each command that ran has its end among the steps that were
 -- added, nothing failed.

@@ -1,5 +1,6 @@
 pub mod Running
 pub mod Answers
+pub mod Due
 pub mod Halting
 pub mod Costs
 pub mod Ends

@@ -5,7 +5,7 @@ ghost use Rattle.spawn_dev.specs.Spawn.{IsIdle};
 ghost use Rattle.run_plan.specs.Openings.{Opening};
 ghost use Rattle.run_plan.specs.Stories.{Now};
 ghost use Rattle.run_plan.specs.StoryLaws.{Stands};
-ghost use Rattle.runner.specs.Halting.{HaltsNow, WaitsFor, WorldGoes};
+ghost use Rattle.runner.specs.Halting.{HaltsAt, WaitsFor, WorldGoes};
 ghost use Rattle.runner.specs.Running.{AreOurs};
 
 use run_plan::{Plan, halt_law};
@@ -18,10 +18,10 @@ pub fn drain<W: Spawner>(alloc: Global, plan: &Plan, world: &mut W)
     ensures idle { IsIdle (W.runs world.new) }
     ensures world { WorldGoes W.tells plan.now (W.runs world.old) (W.runs world.new)
         (W.state world.old) (W.state world.new) }
-    ensures stays { W.tells → (o : Opening) (now : Now) (pairs : List Pair) (room : ℕ)
+    ensures stays { W.tells → (o : Opening) (now : Now) (least : ℕ) (pairs : List Pair) (room : ℕ)
         → Stands plan.now o now
-        → HaltsNow plan.now o now (W.runs world.old) (W.state world.old).files pairs room
-        → HaltsNow plan.now o now (W.runs world.new) (W.state world.new).files pairs room }
+        → HaltsAt plan.now o now least (W.runs world.old) (W.state world.old).files pairs room
+        → HaltsAt plan.now o now least (W.runs world.new) (W.state world.new).files pairs room }
     ensures waits { W.tells → WaitsFor (W.runs world.old) (W.runs world.new) }
     ensures tree { (W.state world.new).faults ≡ (W.state world.old).faults }
     ensures later { (W.runs world.old).faults ≤ (W.runs world.new).faults }

@@ -19,6 +19,9 @@
 //! several faults the first is answered, after all running commands were waited for: `TreeFault`,
 //! `StoreFault`, `StartFault`, `SinkFault`, or `OutOfMemory`.
 //!
+//! The cache may hold results back while commands run; `settling` says when these are put. Where
+//! the cache may still be used they are put before `run` answers.
+//!
 //! `specs/Answers` has what `run` says beside what a plan's run is to leave; the other files of
 //! `specs/` say how the tables of `run_board` go with what runs, and what a run leaves where it
 //! stops.
@@ -29,6 +32,7 @@ mod ending;
 mod looking;
 mod rounds;
 mod running;
+mod settling;
 mod starting;
 mod turns;
 

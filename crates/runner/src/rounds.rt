@@ -1,11 +1,12 @@
 // Rounds of a run: turns, and what is shown after them.
-ghost use Rattle.std.specs.Prelude.{◌≡◌, IsTrue, IfOk, IfErr, OnOk};
+ghost use Rattle.std.specs.Prelude.{◌≡◌, false, IsTrue, IfOk, IfErr, OnOk};
+ghost use Rattle.cache_api.specs.Cache.{AllLast};
 ghost use Rattle.run_core.specs.Core.{states};
 ghost use Rattle.run_plan.specs.Openings.{Opening};
 ghost use Rattle.run_plan.specs.Plans.{IsValidPlan};
 ghost use Rattle.run_plan.specs.StoryLaws.{Stands};
 ghost use Rattle.task_devices.specs.Stops.{StopsBy};
-ghost use Rattle.runner.specs.Answers.{LeavesSafe, cause_of, faults_in};
+ghost use Rattle.runner.specs.Answers.{LeavesSafe, NoneLost, cause_of, faults_in};
 ghost use Rattle.run_board.specs.Boards.{IsBoard, IsOver, IsRound, IsUpToDate};
 ghost use Rattle.runner.specs.Costs.{Spends, SpendsAtMost};
 ghost use Rattle.runner.specs.Halting.{CacheGoes, StopsFrom, WorldGoes};
@@ -37,6 +38,7 @@ fn round<W: Spawner, C: Cache, K: Sink>(
     ensures round { IfOk result (IsRound plan.now board.old board.new) }
     ensures steps { OnOk result (InStep plan.now (states board.new.core) (W.runs world.new)) }
     ensures whole { OnOk result (IsTrue (C.state cache.new).whole) }
+    ensures last { C.tells → IfOk result (λ more. more ≡ false → AllLast (C.state cache.new)) }
     ensures world { WorldGoes W.tells plan.now (W.runs world.old) (W.runs world.new)
         (W.state world.old) (W.state world.new) }
     ensures cache { CacheGoes C.tells C.state C.moment C.left C.says cache.old cache.new }
@@ -50,15 +52,21 @@ fn round<W: Spawner, C: Cache, K: Sink>(
     ensures stops { W.tells → C.tells → IfErr result (λ e. StopsFrom plan.now
         (now_of board.old W.effect (W.runs world.old) (W.state world.old) (C.state cache.old))
         (W.runs world.new) (W.state world.new).files (C.state cache.new).pairs
-        (C.state cache.new).room (cause_of e) K.tells (K.written out.old) (K.written out.new)) }
+        (C.state cache.new).lasting (C.state cache.new).room
+        (NoneLost e (C.state cache.old).faults (C.state cache.new).faults) (cause_of e) K.tells
+        (K.written out.old) (K.written out.new)) }
     ensures left { W.tells → C.tells → (o : Opening) → Stands plan.now o
         (now_of board.old W.effect (W.runs world.old) (W.state world.old) (C.state cache.old))
         → LeavesSafe C.state C.moment C.left C.says plan.now o (W.runs world.new).steps
         cache.old cache.new }
+    ensures stays { W.tells → C.tells → (W.runs world.new).steps ≡ (W.runs world.old).steps
+        → AllLast (C.state cache.old) → AllLast (C.state cache.new) }
     ensures spends { W.tells → C.tells → (W.runs world.new).steps ≡ (W.runs world.old).steps
+        → AllLast (C.state cache.old)
         → OnOk result (Spends plan.now C.state C.cost (states board.old.core)
         (states board.new.core) cache.old cache.new) }
     ensures spent { W.tells → C.tells → (W.runs world.new).steps ≡ (W.runs world.old).steps
+        → AllLast (C.state cache.old)
         → SpendsAtMost plan.now C.state C.cost (states board.old.core) cache.old cache.new }
     ensures cause { StopsBy
         (faults_in (W.state world.old) (C.state cache.old) (W.runs world.old) (K.faults out.old))
@@ -89,6 +97,7 @@ pub fn rounds<W: Spawner, C: Cache, K: Sink>(
     ensures over { OnOk result (IsOver plan.now board.new) }
     ensures steps { OnOk result (InStep plan.now (states board.new.core) (W.runs world.new)) }
     ensures whole { OnOk result (IsTrue (C.state cache.new).whole) }
+    ensures last { C.tells → OnOk result (AllLast (C.state cache.new)) }
     ensures world { WorldGoes W.tells plan.now (W.runs world.old) (W.runs world.new)
         (W.state world.old) (W.state world.new) }
     ensures cache { CacheGoes C.tells C.state C.moment C.left C.says cache.old cache.new }
@@ -102,12 +111,17 @@ pub fn rounds<W: Spawner, C: Cache, K: Sink>(
     ensures stops { W.tells → C.tells → IfErr result (λ e. StopsFrom plan.now
         (now_of board.old W.effect (W.runs world.old) (W.state world.old) (C.state cache.old))
         (W.runs world.new) (W.state world.new).files (C.state cache.new).pairs
-        (C.state cache.new).room (cause_of e) K.tells (K.written out.old) (K.written out.new)) }
+        (C.state cache.new).lasting (C.state cache.new).room
+        (NoneLost e (C.state cache.old).faults (C.state cache.new).faults) (cause_of e) K.tells
+        (K.written out.old) (K.written out.new)) }
     ensures left { W.tells → C.tells → (o : Opening) → Stands plan.now o
         (now_of board.old W.effect (W.runs world.old) (W.state world.old) (C.state cache.old))
         → LeavesSafe C.state C.moment C.left C.says plan.now o (W.runs world.new).steps
         cache.old cache.new }
+    ensures stays { W.tells → C.tells → (W.runs world.new).steps ≡ (W.runs world.old).steps
+        → AllLast (C.state cache.old) → AllLast (C.state cache.new) }
     ensures spent { W.tells → C.tells → (W.runs world.new).steps ≡ (W.runs world.old).steps
+        → AllLast (C.state cache.old)
         → SpendsAtMost plan.now C.state C.cost (states board.old.core) cache.old cache.new }
     ensures cause { StopsBy
         (faults_in (W.state world.old) (C.state cache.old) (W.runs world.old) (K.faults out.old))

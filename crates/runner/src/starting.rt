@@ -1,6 +1,6 @@
 // Starting commands.
-ghost use Rattle.std.specs.Prelude.{◌≡◌, ◌<◌, ℕ, List, length, OnOk, OnErr};
-ghost use Rattle.cache_api.specs.Pairs.{Pair};
+ghost use Rattle.std.specs.Prelude.{◌≡◌, ◌<◌, ℕ, List, length, ⊤, OnOk, OnErr};
+ghost use Rattle.cache_api.specs.Pairs.{Pair, AreFirst};
 ghost use Rattle.run_core.specs.Core.{rules, states};
 ghost use Rattle.run_core.specs.Machine.{next, put, IsCalm};
 ghost use Rattle.run_plan.specs.Answers.{IsSafe};
@@ -41,15 +41,18 @@ pub fn begin<W: Spawner>(
     ensures steps { OnOk result (InStep plan.now (states board.new.core) (W.runs world.new)) }
     ensures world { WorldGoes W.tells plan.now (W.runs world.old) (W.runs world.new)
         (W.state world.old) (W.state world.new) }
-    ensures stands { W.tells → OnOk result ((pairs : List Pair) (room : ℕ) → StaysOn plan.now
-        (now_at board.old W.effect (W.runs world.old) (W.state world.old) pairs room)
-        (now_at board.new W.effect (W.runs world.new) (W.state world.new) pairs room)) }
-    ensures halts { W.tells → OnErr result ((pairs : List Pair) (room : ℕ) → HaltsFrom plan.now
-        (now_at board.old W.effect (W.runs world.old) (W.state world.old) pairs room)
-        (W.runs world.new) (W.state world.new).files pairs room) }
-    ensures safe { W.tells → (o : Opening) (pairs : List Pair) (room : ℕ) → Stands plan.now o
-        (now_at board.old W.effect (W.runs world.old) (W.state world.old) pairs room)
-        → IsSafe plan.now o room (W.runs world.new).steps pairs }
+    ensures stands { W.tells → OnOk result ((pairs : List Pair) (lasting room : ℕ)
+        → StaysOn plan.now
+        (now_at board.old W.effect (W.runs world.old) (W.state world.old) pairs lasting room)
+        (now_at board.new W.effect (W.runs world.new) (W.state world.new) pairs lasting room)) }
+    ensures halts { W.tells → OnErr result ((pairs : List Pair) (lasting room : ℕ)
+        → HaltsFrom plan.now
+        (now_at board.old W.effect (W.runs world.old) (W.state world.old) pairs lasting room)
+        (W.runs world.new) (W.state world.new).files pairs lasting room ⊤) }
+    ensures safe { W.tells → (o : Opening) (pairs left : List Pair) (lasting room : ℕ)
+        → Stands plan.now o
+        (now_at board.old W.effect (W.runs world.old) (W.state world.old) pairs lasting room)
+        → AreFirst lasting pairs left → IsSafe plan.now o room (W.runs world.new).steps left }
     ensures cause { StopsBy (faults_of (W.state world.old).faults 0 (W.runs world.old).faults 0)
         (faults_of (W.state world.new).faults 0 (W.runs world.new).faults 0) result }
 {

@@ -1,11 +1,21 @@
 -- Stores that were opened, of which the local one may be missing.
 use Rattle.std.specs.Prelude.{◌≡◌, ◌⊎◌, ℕ, List, Option, Some}
+use Rattle.std.specs.List.Sorted.{IsPermutation}
 use Rattle.store_dev.specs.Device.{LeavesOnly}
 use Rattle.store_dev.specs.declared.device.StoreDevice.{Ghosts}
 use Rattle.artifact_store.specs.declared.store.Store.{Store}
 use Rattle.artifact_store.specs.Store.{device_of}
+use Rattle.pair_reader.specs.declared.wanted.Lengths.{Lengths}
+use Rattle.pair_reader.specs.declared.wanted.Lengths.TheVariants.{All, Only}
 use Rattle.relay_store.specs.Stores.{state_in, moment_in, images_in}
+use Rattle.run_plan.specs.declared.plan.Plan.{Plan}
+use Rattle.run_plan.specs.KeyLengths.{key_lengths}
 use Rattle.answers.specs.Moments.{Held}
+
+-- the lengths are those of the plan's keys and no others
+abbrev pub AreOfKeys : Plan → Lengths → Type 0
+AreOfKeys plan All = ⊥
+AreOfKeys plan (Only lens) = IsPermutation (key_lengths plan) lens.items
 
 -- what it holds; one that is missing holds nothing
 abbrev pub held_of : {S : Type 0} {G : Ghosts S} → Option (Store S G) → Held

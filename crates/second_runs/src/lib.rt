@@ -16,6 +16,8 @@
 //! is not copied into the local one, and neither gets a pair. Had it found nothing, both results
 //! would stand in the local store, and with `remote:rw` in both.
 //!
+//! [`open_for_plan`] opens a device as a store for such a run: it foresees the plan's keys alone.
+//!
 //! Without access to the local store the store and the spare one are not opened. All devices are
 //! handed back whatever the answer is. Reasons to refuse come in this order: the store is no store
 //! or a damaged one (`NotAStore`, `Damaged`), then the spare one, then the second one. Bytes of a
@@ -31,10 +33,12 @@
 //! leaves of each device meanwhile (`Images`); of that [`image_law`] says what follows (`Laws`).
 #![tactic(auto)]
 
+mod foreseen;
 mod laws;
 mod opened;
 mod opening;
 mod runs;
 
+pub use foreseen::open_for_plan;
 pub use laws::image_law;
 pub use runs::run_second;

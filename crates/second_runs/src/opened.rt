@@ -9,7 +9,7 @@ ghost use Rattle.relay_store.specs.Stores.{state_in, moment_in, images_in};
 ghost use Rattle.run_plan.specs.Answers.{SameElsewhere};
 ghost use Rattle.run_plan.specs.Openings.{HoldsInputs};
 ghost use Rattle.run_plan.specs.Plans.{IsValidPlan};
-ghost use Rattle.answers.specs.Answers.{IfDone, IfRefused, HasCauseIn, counts_at};
+ghost use Rattle.answers.specs.Answers.{IfDone, IfRefused, HasRunCause, counts_at};
 ghost use Rattle.answers.specs.Moments.{moment_of};
 ghost use Rattle.answers.specs.Stops.{IfFault};
 ghost use Rattle.cache_runs.specs.Openings.{IsTrustedRun};
@@ -115,14 +115,14 @@ pub(crate) fn run_opened<W: Spawner, D: StoreDevice, R: StoreDevice, K: Sink>(
         (moment_of (W.state world.old) (W.runs world.old) held (K.written out.old))
         (W.runs world.new).steps (all_pairs access local second) (state_in second).pairs
         (told_as (state_in second).base c)) }
-    ensures cause { HasCauseIn
+    ensures cause { HasRunCause
         (counts_at (W.state world.old) (W.runs world.old)
         ((state_in local).faults + (state_in second).faults) (K.faults out.old))
         (counts_at (W.state world.new) (W.runs world.new)
         ((state_in result.1).faults + (state_in result.2).faults) (K.faults out.new)) result.0 }
 {
-    let mut cache = Relay::new(local, second, access);
-    let answer = run_over(alloc, is_dry, plan, world, &mut cache, out);
+    let cache = Relay::new(local, second, access);
+    let (answer, cache) = run_over(alloc, is_dry, plan, world, cache, out);
     let (local, second) = cache.parts();
     (answer, local, second)
 }

@@ -11,7 +11,7 @@ ghost use Rattle.relay_store.specs.Stores.{state_in};
 ghost use Rattle.run_plan.specs.Answers.{SameElsewhere};
 ghost use Rattle.run_plan.specs.Openings.{HoldsInputs};
 ghost use Rattle.run_plan.specs.Plans.{IsValidPlan};
-ghost use Rattle.answers.specs.Answers.{IfDone, IfRefused, HasCauseIn, counts_at};
+ghost use Rattle.answers.specs.Answers.{IfDone, IfRefused, HasRunCause, counts_at};
 ghost use Rattle.answers.specs.Moments.{Held, moment_of};
 ghost use Rattle.answers.specs.Stops.{IfFault};
 ghost use Rattle.store_answers.specs.Refused.{IsNoStore};
@@ -30,6 +30,7 @@ ghost use Rattle.second_runs.specs.Outcomes.{RanSecond};
 ghost use Rattle.second_runs.specs.Refused.{IsNoneBehind};
 ghost use Rattle.second_runs.specs.Stops.{StopsSecond};
 
+use crate::foreseen::open_for_plan;
 use crate::opened::{device_in, run_opened};
 use answers::Answer;
 use artifact_store::Store;
@@ -123,13 +124,13 @@ pub(crate) fn with_second<W: Spawner, D: StoreDevice, R: StoreDevice, K: Sink>(
         (moment_of (W.state world.old) (W.runs world.old)
         (both_of own (held_by (R.content second))) (K.written out.old))
         (W.runs world.new).steps (generation_in (R.content second)) (R.images second)) }
-    ensures cause { HasCauseIn
+    ensures cause { HasRunCause
         (counts_at (W.state world.old) (W.runs world.old)
         ((state_in local).faults + R.store_faults second) (K.faults out.old))
         (counts_at (W.state world.new) (W.runs world.new)
         ((state_in result.1).faults + R.store_faults result.2) (K.faults out.new)) result.0 }
 {
-    match Store::open(alloc, second) {
+    match open_for_plan(alloc, plan, second) {
         Ok(opened) => {
             let (answer, local, second) = run_opened(
                 alloc,
@@ -226,13 +227,13 @@ pub(crate) fn with_local<W: Spawner, D: StoreDevice, R: StoreDevice, K: Sink>(
         (moment_of (W.state world.old) (W.runs world.old)
         (both_of (held_by (D.content local)) (held_by (R.content second))) (K.written out.old))
         (W.runs world.new).steps (generation_in (R.content second)) (R.images second)) }
-    ensures cause { HasCauseIn
+    ensures cause { HasRunCause
         (counts_at (W.state world.old) (W.runs world.old)
         (D.store_faults local + R.store_faults second) (K.faults out.old))
         (counts_at (W.state world.new) (W.runs world.new)
         (D.store_faults result.1 + R.store_faults result.2) (K.faults out.new)) result.0 }
 {
-    match Store::open(alloc, local) {
+    match open_for_plan(alloc, plan, local) {
         Ok(opened) => {
             let (answer, local, second) = with_second(
                 alloc,

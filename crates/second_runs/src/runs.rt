@@ -9,7 +9,7 @@ ghost use Rattle.compact.specs.Left.{IsReread};
 ghost use Rattle.run_plan.specs.Answers.{SameElsewhere};
 ghost use Rattle.run_plan.specs.Openings.{HoldsInputs};
 ghost use Rattle.run_plan.specs.Plans.{IsValidPlan};
-ghost use Rattle.answers.specs.Answers.{IfDone, IfRefused, HasCauseIn, counts_at};
+ghost use Rattle.answers.specs.Answers.{IfDone, IfRefused, HasRunCause, counts_at};
 ghost use Rattle.answers.specs.Moments.{moment_of};
 ghost use Rattle.answers.specs.Stops.{IfFault};
 ghost use Rattle.store_answers.specs.Stores.{stores_of};
@@ -139,7 +139,7 @@ fn over_current<W: Spawner, S: StoreDevice, P: StoreDevice, R: StoreDevice, K: S
         (at_moment W.state W.runs S.content P.content R.content K.written access
         world.old store spare second out.old)
         (W.runs world.new).steps (generation_in (R.content second)) (R.images second)) }
-    ensures cause { HasCauseIn
+    ensures cause { HasRunCause
         (counts_at (W.state world.old) (W.runs world.old)
         (S.store_faults store + P.store_faults spare + R.store_faults second) (K.faults out.old))
         (counts_at (W.state world.new) (W.runs world.new)
@@ -292,7 +292,7 @@ pub fn run_second<W: Spawner, S: StoreDevice, P: StoreDevice, R: StoreDevice, K:
         (at_moment W.state W.runs S.content P.content R.content K.written access
         world.old store spare second out.old)
         (W.runs world.new).steps (S.images store) (P.images spare)) }
-    ensures cause { HasCauseIn
+    ensures cause { HasRunCause
         (counts_at (W.state world.old) (W.runs world.old)
         (S.store_faults store + P.store_faults spare + R.store_faults second) (K.faults out.old))
         (counts_at (W.state world.new) (W.runs world.new)

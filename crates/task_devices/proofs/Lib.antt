@@ -1,1 +1,2 @@
 mod FileFacts
+pub mod KeepFacts

@@ -38,24 +38,24 @@ StopsBy old new (Err SinkFault) =
     × (new.start ≡ old.start)
 StopsBy old new (Err OutOfMemory) = new ≡ old
 
--- The same after all running commands were waited for, which may fail too: then the count of starts
--- and waits may have risen.
+-- The same after what was due was put and all running commands were waited for, either of which may
+-- fail too: then the counts of the cache and of starts and waits may have risen as well.
 abbrev pub EndsBy : {T : Type 0} → Faults → Faults → Result T RunErr → Type 0
 EndsBy old new (Ok _) = new ≡ old
 EndsBy old new (Err TreeFault) =
-    Rose old.tree new.tree × (new.store ≡ old.store) × (old.start ≤ new.start)
+    Rose old.tree new.tree × (old.store ≤ new.store) × (old.start ≤ new.start)
     × (new.sink ≡ old.sink)
 EndsBy old new (Err StoreFault) =
     Rose old.store new.store × (new.tree ≡ old.tree) × (old.start ≤ new.start)
     × (new.sink ≡ old.sink)
 EndsBy old new (Err StartFault) =
-    Rose old.start new.start × (new.tree ≡ old.tree) × (new.store ≡ old.store)
+    Rose old.start new.start × (new.tree ≡ old.tree) × (old.store ≤ new.store)
     × (new.sink ≡ old.sink)
 EndsBy old new (Err SinkFault) =
-    Rose old.sink new.sink × (new.tree ≡ old.tree) × (new.store ≡ old.store)
+    Rose old.sink new.sink × (new.tree ≡ old.tree) × (old.store ≤ new.store)
     × (old.start ≤ new.start)
 EndsBy old new (Err OutOfMemory) =
-    (new.tree ≡ old.tree) × (new.store ≡ old.store) × (old.start ≤ new.start)
+    (new.tree ≡ old.tree) × (old.store ≤ new.store) × (old.start ≤ new.start)
     × (new.sink ≡ old.sink)
 
 abbrev pub faults_of : ℕ → ℕ → ℕ → ℕ → Faults

@@ -1,10 +1,11 @@
 // Looking a result up.
 ghost use Rattle.std.specs.Prelude.{◌≡◌, ◌+◌, ◌≤◌, IsTrue, IfOk, OnOk, IfSome};
 ghost use Rattle.codes.specs.Views.{found_as};
-ghost use Rattle.cache_api.specs.Cache.{CacheReads};
+ghost use Rattle.cache_api.specs.Cache.{CacheReads, due_in};
 ghost use Rattle.cache_api.specs.Found.{found};
 ghost use Rattle.cache_api.specs.Hits.{paths_ascend, owns_paths, span_count};
 ghost use Rattle.cache_api.specs.Keys.{text_of};
+ghost use Rattle.cache_api.specs.Pairs.{LacksKey};
 ghost use Rattle.cache_api.specs.Reading.{artifact_in};
 ghost use Rattle.task_devices.specs.Stops.{faults_of, StopsBy};
 
@@ -13,14 +14,15 @@ use cache_api::{Cache, CacheErr, Hit, Key};
 use globs::OutSet;
 use std::alloc::Global;
 
-/// Looks a key up.
+/// Looks a key up, with which no result is due.
 pub fn look_up<C: Cache>(
     alloc: Global,
     key: Key,
     outs: &OutSet,
     cache: &mut C,
 ) -> Result<Option<Hit>, RunErr>
-    requires { IsTrue (C.state cache.old).whole }
+    requires whole { IsTrue (C.state cache.old).whole }
+    requires due { C.tells → LacksKey (text_of key) (due_in (C.state cache.old)) }
     ensures found { C.tells → IfOk result (λ o. found_as (C.shows cache.new) o
         ≡ found artifact_in (text_of key.entry) outs.now (C.state cache.old).pairs) }
     ensures stands { IfOk result (λ o. IfSome o (C.stands cache.new)) }

@@ -1,56 +1,54 @@
 // Keeping a result.
-ghost use Rattle.std.specs.Prelude.{◌≡◌, ◌<◌, ◌++◌, List, Some, length, true, false, IsTrue, IfOk, OnOk, OnErr};
+ghost use Rattle.std.specs.Prelude.{◌≡◌, ◌<◌, length, true, false, IsTrue, IfOk, OnOk, OnErr};
 ghost use Rattle.rel_path.specs.Paths.{Path};
-ghost use Rattle.cache_api.specs.Artifacts.{artifact as held};
 ghost use Rattle.cache_api.specs.Cache.{Keeps};
-ghost use Rattle.cache_api.specs.Keys.{text_of};
+ghost use Rattle.cache_api.specs.Keys.{own_pair, own_text};
 ghost use Rattle.cache_api.specs.Moments.{Leaves};
-ghost use Rattle.cache_api.specs.Pairs.{Pair, pair_for, IsWithOrWithout};
 ghost use Rattle.capture.specs.Owned.{declares};
 ghost use Rattle.run_laws.specs.Ancestors.{part_at};
 ghost use Rattle.run_plan.specs.Results.{KeptAs};
 ghost use Rattle.run_plan.specs.StoryLaws.{KeptIf, to_put};
-ghost use Rattle.task_devices.specs.Keeping.{PutAs, MayBePut, MayBeKept, IsFurther};
+ghost use Rattle.task_devices.specs.Keeping.{PutAs, MayBePut, MayBeKept, AreFirstOf, IsPartOf, LastOn};
 ghost use Rattle.task_devices.specs.Stops.{faults_of, StopsBy};
 
 use crate::RunErr;
-use cache_api::{Artifact, Cache, CacheErr, Key};
+use cache_api::{Artifact, Cache, CacheErr, OwnKey, Put};
 use capture::{CapErr, take};
 use page::Note;
 use run_plan::Plan;
 use spawn_dev::{Ended, Spawner};
 use std::alloc::Global;
 
-// Puts an artifact into the cache.
+// Puts an artifact into the cache, which may hold it back.
 fn put<C: Cache>(
     alloc: Global,
-    key: Key,
-    artifact: &Artifact,
+    key: OwnKey,
+    artifact: Artifact,
     cache: &mut C,
 ) -> Result<Note, RunErr>
     requires { IsTrue (C.state cache.old).whole }
     ensures put { C.tells → IfOk result (λ note.
-        PutAs (pair_for (text_of key.entry) (held artifact.now)) (C.state cache.old).pairs
+        PutAs (own_pair key artifact) (C.state cache.old).pairs
         (C.state cache.new).room (C.state cache.new).pairs note) }
-    ensures failed { C.tells → OnErr result (
-        MayBePut (pair_for (text_of key.entry) (held artifact.now)) (C.state cache.old).pairs
+    ensures failed { C.tells → OnErr result (AreFirstOf (C.state cache.old).lasting
+        (MayBePut (own_pair key artifact) (C.state cache.old).pairs)
         (C.state cache.new).pairs) }
+    // whatever it answers
     ensures left { C.tells → Leaves C.moment C.left cache.old cache.new (λ image.
-        IsWithOrWithout (C.state cache.old).pairs
-        (pair_for (text_of key.entry) (held artifact.now))
+        IsPartOf (C.state cache.old).lasting
+        (MayBePut (own_pair key artifact) (C.state cache.old).pairs)
         (C.says (C.state cache.old).base image)) }
-    ensures images { C.tells → Leaves C.moment C.left cache.old cache.new (λ image.
-        IsFurther (C.state cache.old).pairs (C.says (C.state cache.old).base image)) }
+    ensures lasts { C.tells → LastOn C.state C.moment C.left C.says cache.old cache.new }
     ensures keeps { Keeps (C.state cache.old) (C.state cache.new) }
     ensures whole { OnOk result (IsTrue (C.state cache.new).whole) }
     ensures cause { StopsBy (faults_of 0 (C.state cache.old).faults 0 0)
         (faults_of 0 (C.state cache.new).faults 0 0) result }
 {
-    match cache.put_keyed(alloc, key, artifact) {
-        Ok(()) => Ok(Note::Stored),
-        Err(CacheErr::Full) => Ok(Note::Full),
+    match cache.give(alloc, key, artifact) {
+        Ok(Put::Stored) => Ok(Note::Stored),
+        Ok(Put::Full) => Ok(Note::Full),
         Err(CacheErr::Failed) => Err(RunErr::StoreFault),
-        Err(CacheErr::OutOfMemory) => Err(RunErr::OutOfMemory),
+        Err(CacheErr::Full) | Err(CacheErr::OutOfMemory) => Err(RunErr::OutOfMemory),
     }
 }
 
@@ -59,7 +57,7 @@ fn store<W: Spawner, C: Cache>(
     alloc: Global,
     plan: &Plan,
     place: u32,
-    key: Key,
+    key: OwnKey,
     log: &[u8],
     world: &mut W,
     cache: &mut C,
@@ -72,20 +70,19 @@ fn store<W: Spawner, C: Cache>(
     ensures files { (W.state world.new).files ≡ (W.state world.old).files }
     ensures kept { W.tells → C.tells → IfOk result (λ note.
         KeptAs (W.state world.old).files (part_at plan.now.listing place).outs plan.now.limit
-        (text_of key.entry) log.now (C.state cache.old).pairs
+        (own_text key) log.now (C.state cache.old).pairs
         (C.state cache.new).room (C.state cache.new).pairs note) }
-    ensures grows { C.tells → (more : List Pair)
-        × ((C.state cache.new).pairs ≡ (C.state cache.old).pairs ++ more) }
-    ensures failed { W.tells → C.tells → OnErr result (MayBeKept true
-        (W.state world.old).files (part_at plan.now.listing place).outs plan.now.limit
-        (text_of key.entry) log.now (C.state cache.old).pairs (C.state cache.new).pairs) }
+    ensures failed { W.tells → C.tells → OnErr result (AreFirstOf (C.state cache.old).lasting
+        (MayBeKept true (W.state world.old).files (part_at plan.now.listing place).outs
+        plan.now.limit (own_text key) log.now (C.state cache.old).pairs)
+        (C.state cache.new).pairs) }
+    // whatever it answers
     ensures left { W.tells → C.tells → Leaves C.moment C.left cache.old cache.new (λ image.
-        (pairs : List Pair) × (C.says (C.state cache.old).base image ≡ Some pairs)
-        × MayBeKept true
-        (W.state world.old).files (part_at plan.now.listing place).outs plan.now.limit
-        (text_of key.entry) log.now (C.state cache.old).pairs pairs) }
-    ensures images { C.tells → Leaves C.moment C.left cache.old cache.new (λ image.
-        IsFurther (C.state cache.old).pairs (C.says (C.state cache.old).base image)) }
+        IsPartOf (C.state cache.old).lasting
+        (MayBeKept true (W.state world.old).files (part_at plan.now.listing place).outs
+        plan.now.limit (own_text key) log.now (C.state cache.old).pairs)
+        (C.says (C.state cache.old).base image)) }
+    ensures lasts { C.tells → LastOn C.state C.moment C.left C.says cache.old cache.new }
     ensures keeps { Keeps (C.state cache.old) (C.state cache.new) }
     ensures whole { OnOk result (IsTrue (C.state cache.new).whole) }
     ensures cause { StopsBy
@@ -97,7 +94,7 @@ fn store<W: Spawner, C: Cache>(
 {
     match take(alloc, world, &plan.part(place).outs, log, plan.limit) {
         Ok(artifact) => {
-            let note = put(alloc, key, &artifact, cache)?;
+            let note = put(alloc, key, artifact, cache)?;
             Ok(note)
         }
         Err(CapErr::Shared { path }) => Ok(Note::Shared(path)),
@@ -114,13 +111,13 @@ fn is_to_put(plan: &Plan, sound: bool, place: u32, status: u8) -> bool
     sound && status == 0 && plan.caches(place)
 }
 
-/// Keeps the result of an end, where it is to be put into the cache.
+/// Keeps the result of an end, where it is to be put into the cache, which may hold it back.
 pub fn keep<W: Spawner, C: Cache>(
     alloc: Global,
     plan: &Plan,
     ended: &Ended,
     sound: bool,
-    key: Key,
+    key: OwnKey,
     world: &mut W,
     cache: &mut C,
 ) -> Result<Note, RunErr>
@@ -134,23 +131,21 @@ pub fn keep<W: Spawner, C: Cache>(
     ensures kept { W.tells → C.tells → IfOk result (λ note.
         KeptIf (to_put plan.now sound ended.now.place ended.now.status)
         (KeptAs (W.state world.old).files (part_at plan.now.listing ended.now.place).outs
-        plan.now.limit (text_of key.entry) ended.now.log (C.state cache.old).pairs
+        plan.now.limit (own_text key) ended.now.log (C.state cache.old).pairs
         (C.state cache.new).room (C.state cache.new).pairs note)
         note (C.state cache.old).pairs (C.state cache.new).pairs) }
-    ensures grows { C.tells → (more : List Pair)
-        × ((C.state cache.new).pairs ≡ (C.state cache.old).pairs ++ more) }
-    ensures failed { W.tells → C.tells → OnErr result (
-        MayBeKept (to_put plan.now sound ended.now.place ended.now.status)
+    ensures failed { W.tells → C.tells → OnErr result (AreFirstOf (C.state cache.old).lasting
+        (MayBeKept (to_put plan.now sound ended.now.place ended.now.status)
         (W.state world.old).files (part_at plan.now.listing ended.now.place).outs plan.now.limit
-        (text_of key.entry) ended.now.log (C.state cache.old).pairs (C.state cache.new).pairs) }
+        (own_text key) ended.now.log (C.state cache.old).pairs) (C.state cache.new).pairs) }
     // whatever it answers
     ensures left { W.tells → C.tells → Leaves C.moment C.left cache.old cache.new (λ image.
-        (pairs : List Pair) × (C.says (C.state cache.old).base image ≡ Some pairs)
-        × MayBeKept (to_put plan.now sound ended.now.place ended.now.status)
+        IsPartOf (C.state cache.old).lasting
+        (MayBeKept (to_put plan.now sound ended.now.place ended.now.status)
         (W.state world.old).files (part_at plan.now.listing ended.now.place).outs plan.now.limit
-        (text_of key.entry) ended.now.log (C.state cache.old).pairs pairs) }
-    ensures images { C.tells → Leaves C.moment C.left cache.old cache.new (λ image.
-        IsFurther (C.state cache.old).pairs (C.says (C.state cache.old).base image)) }
+        (own_text key) ended.now.log (C.state cache.old).pairs)
+        (C.says (C.state cache.old).base image)) }
+    ensures lasts { C.tells → LastOn C.state C.moment C.left C.says cache.old cache.new }
     ensures keeps { Keeps (C.state cache.old) (C.state cache.new) }
     ensures whole { OnOk result (IsTrue (C.state cache.new).whole) }
     ensures cause { StopsBy

@@ -1,6 +1,7 @@
 //! What is done to the devices of a run for one task: its files are removed, put back or taken,
 //! its log file is written, its command started and waited for, and its result looked up in the
-//! cache or kept there. For a task that the cache lacks the calls come in this order:
+//! cache or kept there. The cache may hold results back, and [`settle`] puts these. For a task that
+//! the cache lacks the calls come in this order:
 //!
 //! ```text
 //! look_up(alloc, key, outs, cache)?                         None
@@ -9,6 +10,7 @@
 //! wait(alloc, world)?                                       Ended { place: 0, status: 0, log }
 //! keep_log(alloc, plan, 0, log, world)?                     packages/ui/.turbo/turbo-build.log
 //! keep(alloc, plan, &ended, true, key, world, cache)?       Note::Stored
+//! settle(alloc, cache)?                                     the result lasts, whatever crashes
 //! ```
 //!
 //! Where it was found, [`put_back`] puts its files in place and answers its log. Tasks are named
@@ -27,6 +29,7 @@ mod files;
 mod finding;
 mod keeping;
 mod printing;
+mod settling;
 
 pub use commands::{start, wait};
 pub use error::RunErr;
@@ -34,3 +37,4 @@ pub use files::{clear_owned, keep_log, put_back};
 pub use finding::look_up;
 pub use keeping::keep;
 pub use printing::put_text;
+pub use settling::settle;

@@ -4,8 +4,9 @@ use Rattle.rel_path.specs.Causes.{Rose}
 use Rattle.answers.specs.declared.answer.Answer.{Answer}
 use Rattle.answers.specs.declared.answer.Answer.TheVariants.{Done, Refused, TreeFault, StoreFault}
 use Rattle.answers.specs.declared.answer.Answer.TheVariants.{StartFault, SinkFault, OutOfMemory}
-use Rattle.answers.specs.Answers.{FaultCounts, HasCauseIn, IsNoFault, IsQuiet, counts_of}
-use Rattle.answers.specs.Facts.{no_fault}
+use Rattle.answers.specs.Answers.{FaultCounts, HasCauseIn, HasRunCause, IsNoFault, IsQuiet}
+use Rattle.answers.specs.Answers.{counts_of}
+use Rattle.answers.specs.Facts.{no_run_fault}
 use Rattle.file_runs.specs.Causes.{HasCauseOver}
 use Rattle.run_orders.specs.Causes.{HasCauseBy}
 use Rattle.run_orders.proofs.Causes.{cause_by}
@@ -47,24 +48,24 @@ cause_with n tree store start sink tree_now store_now start_now sink_now OutOfMe
 
 -- of a file that is told nothing is added
 over_told : (told : Type 0) (old new : FaultCounts) (answer : Answer) → told
-    → HasCauseOver told old new answer → HasCauseIn old new answer
+    → HasCauseOver told old new answer → HasRunCause old new answer
 over_told told old new answer is x =
     let none : new.store + 0 ≡ new.store = omega arith in
-    subst (λ (n : ℕ). HasCauseIn old (record new { store = n }) answer)
+    subst (λ (n : ℕ). HasRunCause old (record new { store = n }) answer)
     (ap (λ (n : ℕ). new.store + n) (x.never is) ∙ none) x.cause
 
 pub cause_told : (uses : Uses) (told : Type 0) (old new : FaultCounts) (answer : Answer) → told
-    → HasCauseBy uses told old new answer → HasCauseIn old new answer
+    → HasCauseBy uses told old new answer → HasRunCause old new answer
 cause_told Current told old new answer is x = x
 cause_told Second told old new answer is x = x
 cause_told Shared told old new answer is x = over_told told old new answer is x
 
 quiet_by : (uses : Uses) (told : Type 0) (old new : FaultCounts) (answer : Answer)
     → HasCauseBy uses told old new answer → IsQuietOver uses told old new → IsNoFault answer
-quiet_by Current told old new answer x quiet = no_fault old new answer x quiet
-quiet_by Second told old new answer x quiet = no_fault old new answer x quiet
+quiet_by Current told old new answer x quiet = no_run_fault old new answer x quiet
+quiet_by Second told old new answer x quiet = no_run_fault old new answer x quiet
 quiet_by Shared told old new answer x (is, quiet) =
-    no_fault old new answer (over_told told old new answer is x) quiet
+    no_run_fault old new answer (over_told told old new answer is x) quiet
 
 -- ---- of a call that used no shared file
 

@@ -1,6 +1,6 @@
 use Rattle.std.proofs.Common.{◌≡◌, ◌+◌, ◌≤◌, ◌++◌}
 use Rattle.std.specs.Prelude.{IsTrue}
-use Rattle.cache_api.specs.Cache.{CacheReads}
+use Rattle.cache_api.specs.Cache.{CacheReads, AllLast}
 use Rattle.run_core.specs.Moves.{sum_below}
 use Rattle.run_plan.specs.Costs.{task_cost}
 use Rattle.run_plan.specs.DryPages.{dry_blocks}
@@ -15,6 +15,7 @@ invariant-loop-place g l = record {
   probes : g.C.Cache.tells → (g.C.Cache.state l.cache).probes
       ≤ (g.C.Cache.state l.initial.cache).probes
       + sum_below (task_cost (g.C.Cache.cost l.initial.cache) l.plan) l.place;
+  last : g.C.Cache.tells → AllLast (g.C.Cache.state l.cache);
   whole : IsTrue (g.C.Cache.state l.cache).whole;
   page : g.C.Cache.tells → g.K.Sink.tells → g.K.Sink.written l.out
       ≡ g.K.Sink.written l.initial.out

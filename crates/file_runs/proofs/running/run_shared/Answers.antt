@@ -7,7 +7,7 @@ use Rattle.run_plan.specs.declared.plan.Plan.{Plan}
 use Rattle.run_plan.specs.Answers.{Cause}
 use Rattle.shared_runs.specs.Frames.{HoldsOneOrMore}
 use Rattle.shared_runs.specs.Shared.{state_of}
-use Rattle.task_devices.specs.Keeping.{IsFurther}
+use Rattle.runner.specs.Answers.{IsFurther}
 use Rattle.store_dev.specs.Device.{LeavesOnly}
 use Rattle.store_dev.specs.Moments.{leaves_more}
 use Rattle.answers.specs.Answers.{IfDone}
@@ -81,25 +81,25 @@ returns-in-Err-clause-left g c told store trusted =
 pub returns-in-Ok-clause-cause : goal.returns-in-Ok-clause-cause
 returns-in-Ok-clause-cause g c =
     let run = c.run_over-answer in
-    cause_end c.args.shared c.in-Ok.opened run.new.cache c.in-Ok.ensures.opened run.ensures.keeps
+    cause_end c.args.shared c.in-Ok.opened run.result.1 c.in-Ok.ensures.opened run.ensures.keeps
     c.shared.result c.shared.ensures.file
     (g.W.Tree.state c.args.world.now).faults (g.W.Spawner.runs c.args.world.now).faults
     (g.K.Sink.faults c.args.out.now) (g.W.Tree.state run.new.world).faults
-    (g.W.Spawner.runs run.new.world).faults (g.K.Sink.faults run.new.out) run.result
+    (g.W.Spawner.runs run.new.world).faults (g.K.Sink.faults run.new.out) run.result.0
     run.ensures.cause
 
 pub returns-in-Ok-clause-lasts : goal.returns-in-Ok-clause-lasts
 returns-in-Ok-clause-lasts g c store =
     let run = c.run_over-answer in
-    done_as _ _ run.result
-    (λ status whole. only_end c.args.shared c.in-Ok.opened run.new.cache c.in-Ok.ensures.opened
+    done_as _ _ run.result.0
+    (λ status whole. only_end c.args.shared c.in-Ok.opened run.result.1 c.in-Ok.ensures.opened
     run.ensures.keeps c.shared.result c.shared.ensures.file store whole)
     run.ensures.whole
 
 pub returns-in-Ok-clause-sound : goal.returns-in-Ok-clause-sound
 returns-in-Ok-clause-sound g c store =
     let run = c.run_over-answer in
-    sound_end c.args.shared c.in-Ok.opened run.new.cache c.in-Ok.ensures.opened
+    sound_end c.args.shared c.in-Ok.opened run.result.1 c.in-Ok.ensures.opened
     run.ensures.keeps c.shared.result c.shared.ensures.file store
     (IsFurther (state_of c.in-Ok.opened).pairs) (λ further. no_some further.1)
     (run.ensures.images store)
@@ -108,7 +108,7 @@ pub returns-in-Ok-clause-grows : goal.returns-in-Ok-clause-grows
 returns-in-Ok-clause-grows g c store =
     let run = c.run_over-answer in
     let runs = g.W.Spawner.runs c.args.world.now in
-    left_further c.args.shared c.in-Ok.opened run.new.cache c.in-Ok.ensures.opened
+    left_further c.args.shared c.in-Ok.opened run.result.1 c.in-Ok.ensures.opened
     run.ensures.keeps c.shared.result c.shared.ensures.file store
     c.args.plan.now (g.W.Spawner.effect runs.book) (g.W.Tree.state c.args.world.now).files
     (g.W.Tree.state run.new.world).files runs.steps (g.W.Spawner.runs run.new.world).steps
@@ -133,25 +133,25 @@ returns-in-Ok-clause-ran g c told store = by c.args.is_dry refl
     now = at_moment g.W.Tree.state g.W.Spawner.runs g.H.Shared.content g.H.Shared.coming
         g.K.Sink.written c.run_over-answer.new.world c.shared.result c.run_over-answer.new.out
 
-    by : (dry : Bool) → c.args.is_dry ≡ dry → IfDone c.run_over-answer.result
+    by : (dry : Bool) → c.args.is_dry ≡ dry → IfDone c.run_over-answer.result.0
         (RanAs dry book plan g.K.Sink.tells old now (g.H.Shared.content c.shared.result))
     by true is =
         let run = c.run_over-answer in
-        ran_dry c.args.shared c.in-Ok.opened run.new.cache c.in-Ok.ensures.opened
+        ran_dry c.args.shared c.in-Ok.opened run.result.1 c.in-Ok.ensures.opened
         run.ensures.keeps c.shared.result c.shared.ensures.file store plan book old.files now.files
-        old.steps now.steps old.printed now.printed g.K.Sink.tells run.result
+        old.steps now.steps old.printed now.printed g.K.Sink.tells run.result.0
         (rw is at (run.ensures.dry_pairs store)) (rw is at run.ensures.dry_files)
         (rw is at run.ensures.dry_steps) (rw is at run.ensures.dry_status)
         (λ heard. rw is at (run.ensures.dry_page store heard))
     by false is =
         let run = c.run_over-answer in
-        ran_live c.args.shared c.in-Ok.opened run.new.cache c.in-Ok.ensures.opened
+        ran_live c.args.shared c.in-Ok.opened run.result.1 c.in-Ok.ensures.opened
         run.ensures.keeps c.shared.result c.shared.ensures.file store plan book old.files now.files
         old.steps now.steps old.printed now.printed c.requires.plan
         (g.met.W.Spawner.well_behaved (g.W.Spawner.runs c.args.world.now).book)
         (c.requires.inputs told)
-        (g.met.H.Shared.stays run.new.cache.turns.shared store (run.new.cache.sees store).sound)
-        g.K.Sink.tells run.result (rw is at (run.ensures.ran told store))
+        (g.met.H.Shared.stays run.result.1.turns.shared store (run.result.1.sees store).sound)
+        g.K.Sink.tells run.result.0 (rw is at (run.ensures.ran told store))
 
 pub returns-in-Ok-clause-stopped : goal.returns-in-Ok-clause-stopped
 returns-in-Ok-clause-stopped g c told store heard = by c.args.is_dry refl
@@ -174,7 +174,7 @@ returns-in-Ok-clause-stopped g c told store heard = by c.args.is_dry refl
     before = pairs_in (g.H.Shared.coming c.args.shared)
 
     opened : old.held.pairs ≡ Some before
-    opened = held_first c.args.shared c.in-Ok.opened c.run_over-answer.new.cache
+    opened = held_first c.args.shared c.in-Ok.opened c.run_over-answer.result.1
         c.in-Ok.ensures.opened c.run_over-answer.ensures.keeps c.shared.result
         c.shared.ensures.file store
 
@@ -182,25 +182,25 @@ returns-in-Ok-clause-stopped g c told store heard = by c.args.is_dry refl
     Stops dry = StopsOpening (IsNoStore Shared (g.H.Shared.content c.args.shared)) dry book plan
         g.K.Sink.tells old now (g.H.Shared.content c.shared.result)
 
-    by : (dry : Bool) → c.args.is_dry ≡ dry → IfFault c.run_over-answer.result (Stops dry)
+    by : (dry : Bool) → c.args.is_dry ≡ dry → IfFault c.run_over-answer.result.0 (Stops dry)
     by true is =
         let run = c.run_over-answer in
-        if_fault run.result _ (Stops true) (λ cause line stops. inr (before, opened, stops))
-        (stops_dry c.args.shared c.in-Ok.opened run.new.cache c.in-Ok.ensures.opened
+        if_fault run.result.0 _ (Stops true) (λ cause line stops. inr (before, opened, stops))
+        (stops_dry c.args.shared c.in-Ok.opened run.result.1 c.in-Ok.ensures.opened
         run.ensures.keeps c.shared.result c.shared.ensures.file store plan book old.files now.files
-        old.steps now.steps old.printed now.printed run.result
+        old.steps now.steps old.printed now.printed run.result.0
         (rw is at (run.ensures.dry_pairs store)) (rw is at run.ensures.dry_files)
         (rw is at run.ensures.dry_steps) (rw is at (run.ensures.dry_stopped store heard)))
     by false is =
         let run = c.run_over-answer in
-        if_fault run.result _ (Stops false) (λ cause line stops. inr (before, opened, stops))
-        (stops_live c.args.shared c.in-Ok.opened run.new.cache c.in-Ok.ensures.opened
+        if_fault run.result.0 _ (Stops false) (λ cause line stops. inr (before, opened, stops))
+        (stops_live c.args.shared c.in-Ok.opened run.result.1 c.in-Ok.ensures.opened
         run.ensures.keeps c.shared.result c.shared.ensures.file store plan book old.files now.files
         old.steps now.steps old.printed now.printed c.requires.plan
         (g.met.W.Spawner.well_behaved (g.W.Spawner.runs c.args.world.now).book)
         (c.requires.inputs told)
-        (g.met.H.Shared.stays run.new.cache.turns.shared store (run.new.cache.sees store).sound)
-        g.K.Sink.tells run.result (rw is at (run.ensures.stopped told store heard)))
+        (g.met.H.Shared.stays run.result.1.turns.shared store (run.result.1.sees store).sound)
+        g.K.Sink.tells run.result.0 (rw is at (run.ensures.stopped told store heard)))
 
 pub returns-in-Ok-clause-left : goal.returns-in-Ok-clause-left
 returns-in-Ok-clause-left g c told store trusted =
@@ -224,7 +224,7 @@ returns-in-Ok-clause-left g c told store trusted =
     before = pairs_in (g.H.Shared.coming c.args.shared)
 
     opened : old.held.pairs ≡ Some before
-    opened = held_first c.args.shared c.in-Ok.opened c.run_over-answer.new.cache
+    opened = held_first c.args.shared c.in-Ok.opened c.run_over-answer.result.1
         c.in-Ok.ensures.opened c.run_over-answer.ensures.keeps c.shared.result
         c.shared.ensures.file store
 
@@ -233,15 +233,15 @@ returns-in-Ok-clause-left g c told store trusted =
         (IsOneOrAddedTo g.H.Shared c.args.shared old (IsDueBy dry book plan old now))
     by true is trust =
         let run = c.run_over-answer in
-        left_dry c.args.shared c.in-Ok.opened run.new.cache c.in-Ok.ensures.opened
+        left_dry c.args.shared c.in-Ok.opened run.result.1 c.in-Ok.ensures.opened
         run.ensures.keeps c.shared.result c.shared.ensures.file store plan book old.files now.files
         old.steps now.steps old.printed now.printed (rw is at (run.ensures.dry_left store))
     by false is trust =
         let run = c.run_over-answer in
-        left_live c.args.shared c.in-Ok.opened run.new.cache c.in-Ok.ensures.opened
+        left_live c.args.shared c.in-Ok.opened run.result.1 c.in-Ok.ensures.opened
         run.ensures.keeps c.shared.result c.shared.ensures.file store plan book old.files now.files
         old.steps now.steps old.printed now.printed c.requires.plan
         (g.met.W.Spawner.well_behaved (g.W.Spawner.runs c.args.world.now).book)
         (c.requires.inputs told)
-        (g.met.H.Shared.stays run.new.cache.turns.shared store (run.new.cache.sees store).sound)
+        (g.met.H.Shared.stays run.result.1.turns.shared store (run.result.1.sees store).sound)
         trust (rw is at (run.ensures.left told store))

@@ -6,7 +6,7 @@ use Rattle.compact.specs.Left.{IsReread, StillRests}
 use Rattle.refusals.specs.declared.refusal.Refusal.{Refusal}
 use Rattle.refusals.specs.declared.refusal.StoreFile.TheVariants as file
 use Rattle.store_dev.specs.Device.{LeavesOnly, Only}
-use Rattle.answers.specs.Facts.{not_done, if_fault, if_refused}
+use Rattle.answers.specs.Facts.{cause_of_run, not_done, if_fault, if_refused}
 use Rattle.answers.specs.Moments.{Held, moment_of}
 use Rattle.answers.specs.Stops.{IfFault}
 use Rattle.store_answers.specs.Facts.{generation_same, no_stores}
@@ -500,8 +500,9 @@ returns-in-Err-clause-left g c world told tells trusted f t since after =
 pub returns-in-Err-clause-cause : goal.returns-in-Err-clause-cause
 returns-in-Err-clause-cause g c =
     let found = c.current-found in
-    c.not_current.ensures.cause (g.W.Tree.state c.args.world.now).faults
+    cause_of_run _ _ c.not_current.result
+    (c.not_current.ensures.cause (g.W.Tree.state c.args.world.now).faults
     (g.W.Spawner.runs c.args.world.now).faults
     (g.S.StoreDevice.store_faults c.args.store) (g.S.StoreDevice.store_faults found.result.1)
     (g.P.StoreDevice.store_faults c.args.spare) (g.P.StoreDevice.store_faults found.result.2)
-    (raised_of _ _ _ _ found.result.0 c.in-Err.fault c.in-Err.is found.ensures.cause)
+    (raised_of _ _ _ _ found.result.0 c.in-Err.fault c.in-Err.is found.ensures.cause))

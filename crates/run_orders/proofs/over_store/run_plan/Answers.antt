@@ -1,12 +1,11 @@
 -- The store was opened and run over, or it is none.
 use Rattle.std.proofs.Common.{ℕ, inl, inr, true, refl, subst}
 use Rattle.record_log.specs.Frames.{ReadsAsOneOf}
-use Rattle.artifact_store.specs.Store.{device_of, state_of}
+use Rattle.artifact_store.specs.Store.{device_of, lengths_of, state_of}
 use Rattle.artifact_store.specs.Pairs.{told_as}
 use Rattle.compact.specs.Current.{generation_in}
-use Rattle.pair_reader.specs.declared.wanted.Lengths.TheVariants as Lengths
 use Rattle.store_dev.specs.Moments.{leaves_then}
-use Rattle.answers.specs.Facts.{if_fault, if_refused}
+use Rattle.answers.specs.Facts.{cause_of_run, if_fault, if_refused}
 use Rattle.answers.specs.Moments.{moment_of}
 use Rattle.store_answers.specs.Facts.{no_store}
 use Rattle.store_answers.specs.Stores.{held_by}
@@ -20,9 +19,10 @@ use Rattle.run_orders.proofs.over_store.run_plan.Goals as goal
 
 pub returns-in-Err-clause-cause : goal.returns-in-Err-clause-cause
 returns-in-Err-clause-cause g c =
-    c.unopened.ensures.cause (g.W.Tree.state c.args.world.now).faults
+    cause_of_run _ _ c.unopened.result
+    (c.unopened.ensures.cause (g.W.Tree.state c.args.world.now).faults
     (g.W.Spawner.runs c.args.world.now).faults (g.S.StoreDevice.store_faults c.args.store)
-    (g.S.StoreDevice.store_faults c.in-Err.field-0.store) c.in-Err.ensures.unopened.cause
+    (g.S.StoreDevice.store_faults c.in-Err.field-0.store) c.in-Err.ensures.unopened.cause)
 
 pub returns-in-Ok-clause-ran : goal.returns-in-Ok-clause-ran
 returns-in-Ok-clause-ran g c told store =
@@ -59,7 +59,7 @@ returns-in-Err-clause-same g c store =
 
 pub returns-in-Ok-clause-sound : goal.returns-in-Ok-clause-sound
 returns-in-Ok-clause-sound g c store =
-    opened_adds c.args.store Lengths.All c.in-Ok.opened c.in-Ok.ensures.opened store true
+    opened_adds c.args.store (lengths_of c.in-Ok.opened) c.in-Ok.opened c.in-Ok.ensures.opened store true
     (g.met.S.StoreDevice.as_it_reads c.args.store store) c.run_store.result.1
     (c.run_store.ensures.sound store)
 
@@ -81,7 +81,7 @@ returns-in-Ok-clause-left g c told store trusted =
     let old = moment_of (g.W.Tree.state c.args.world.now) runs (held_by (s.content c.args.store))
     (g.K.Sink.written c.args.out.now) in
     let steps = (g.W.Spawner.runs c.run_store.new.world).steps in
-    let same = opened_generation c.args.store Lengths.All c.in-Ok.opened opened store in
+    let same = opened_generation c.args.store (lengths_of c.in-Ok.opened) c.in-Ok.opened opened store in
     leaves_then s.moment s.images_since c.args.store (device_of c.in-Ok.opened) c.run_store.result.1
     (ReadsAsOneOf images)
     (λ image. IsLeftByRun c.args.is_dry plan (opening_at book old pairs) steps (told_as base image))

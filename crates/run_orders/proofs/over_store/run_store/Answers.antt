@@ -5,9 +5,8 @@ use Rattle.run_laws.specs.Effects.{Book}
 use Rattle.run_laws.specs.Runs.{IsReady}
 use Rattle.run_plan.specs.declared.plan.Plan.{Plan}
 use Rattle.run_plan.specs.Openings.{Opening, setting_of}
-use Rattle.runner.specs.Answers.{HasSafePairs, opening_of}
+use Rattle.runner.specs.Answers.{HasSafePairs, IsFurther, opening_of}
 use Rattle.spawn_dev.specs.declared.command.Step.{Step}
-use Rattle.task_devices.specs.Keeping.{IsFurther}
 use Rattle.store_dev.specs.Device.{LeavesOnly}
 use Rattle.artifact_store.specs.Store.{device_of, state_of}
 use Rattle.artifact_store.specs.Pairs.{told_as}
@@ -46,16 +45,16 @@ returns-clause-stopped g c told store heard held kept = by c.args.is_dry refl
         (g.W.Spawner.runs c.run_over-answer.new.world) kept
         (g.K.Sink.written c.run_over-answer.new.out)
 
-    by : (dry : Bool) → c.args.is_dry ≡ dry → IfFault c.run_over-answer.result
+    by : (dry : Bool) → c.args.is_dry ≡ dry → IfFault c.run_over-answer.result.0
         (StopsRun dry book plan pairs g.K.Sink.tells old new)
     by true is =
-        stops_dry plan book old new pairs pairs refl g.K.Sink.tells c.run_over-answer.result
+        stops_dry plan book old new pairs pairs refl g.K.Sink.tells c.run_over-answer.result.0
         (rw is at c.run_over-answer.ensures.dry_files)
         (rw is at c.run_over-answer.ensures.dry_steps)
         (rw is at (c.run_over-answer.ensures.dry_stopped store heard))
     by false is =
-        let after = state_of c.run_over-answer.new.cache in
-        stops_live plan book old new pairs pairs refl g.K.Sink.tells c.run_over-answer.result
+        let after = state_of c.run_over-answer.result.1 in
+        stops_live plan book old new pairs pairs refl g.K.Sink.tells c.run_over-answer.result.0
         c.requires.plan
         (g.met.W.Spawner.well_behaved (g.W.Spawner.runs c.args.world.now).book)
         (c.requires.inputs told) after.pairs after.room
@@ -91,10 +90,10 @@ returns-clause-ran g c told store held opened = by c.args.is_dry refl
     ready = is_ready plan opening c.requires.plan (g.met.W.Spawner.well_behaved
         (g.W.Spawner.runs c.args.world.now).book) (c.requires.inputs told)
 
-    by : (dry : Bool) → c.args.is_dry ≡ dry → IfDone c.run_over-answer.result
+    by : (dry : Bool) → c.args.is_dry ≡ dry → IfDone c.run_over-answer.result.0
         (RanAs dry book plan g.K.Sink.tells old new)
     by true is =
-        dry_done (RanPlanDry plan g.K.Sink.tells old new) c.run_over-answer.result
+        dry_done (RanPlanDry plan g.K.Sink.tells old new) c.run_over-answer.result.0
         c.run_over-answer.ensures.whole (rw is at c.run_over-answer.ensures.dry_status)
         (λ heard. rw is at (c.run_over-answer.ensures.dry_page store heard))
         (λ status whole zero page. record {
@@ -108,14 +107,14 @@ returns-clause-ran g c told store held opened = by c.args.is_dry refl
           status_is = zero;
         })
     by false is =
-        live_done _ (RanPlan book plan g.K.Sink.tells old new) c.run_over-answer.result
+        live_done _ (RanPlan book plan g.K.Sink.tells old new) c.run_over-answer.result.0
         c.run_over-answer.ensures.whole (rw is at (c.run_over-answer.ensures.ran told store))
         (λ status whole ran. record {
           before = pairs;
           opened = opened;
-          after = (state_of c.run_over-answer.new.cache).pairs;
+          after = (state_of c.run_over-answer.result.1).pairs;
           left = c.device.ensures.pairs store whole;
-          room = (state_of c.run_over-answer.new.cache).room;
+          room = (state_of c.run_over-answer.result.1).room;
           room_is = c.device.ensures.free store whole;
           ran = λ trust. ran (ready trust);
         })
@@ -124,12 +123,12 @@ pub returns-clause-sound : goal.returns-clause-sound
 returns-clause-sound g c store =
     let base = (state_of c.args.store).base in
     let pairs = (state_of c.args.store).pairs in
-    handed c.args.store c.run_over-answer.new.cache c.device.result c.device.ensures.device
+    handed c.args.store c.run_over-answer.result.1 c.device.result c.device.ensures.device
     (λ image. IsFurther pairs (told_as base image)) _
     (c.run_over-answer.ensures.images store) (λ image further. further)
 
 pub returns-clause-lasts : goal.returns-clause-lasts
-returns-clause-lasts g c store = done_as _ _ c.run_over-answer.result
+returns-clause-lasts g c store = done_as _ _ c.run_over-answer.result.0
     (λ status whole. c.device.ensures.lasts store whole) c.run_over-answer.ensures.whole
 
 pub returns-clause-left : goal.returns-clause-left
@@ -155,7 +154,7 @@ returns-clause-left g c told store trusted = by c.args.is_dry refl trusted
     steps = (g.W.Spawner.runs c.run_over-answer.new.world).steps
 
     room : ℕ
-    room = (state_of c.run_over-answer.new.cache).room
+    room = (state_of c.run_over-answer.result.1).room
 
     ready : IsTrusted book plan pairs → IsReady (setting_of plan opening)
     ready = is_ready plan opening c.requires.plan (g.met.W.Spawner.well_behaved
@@ -165,11 +164,11 @@ returns-clause-left g c told store trusted = by c.args.is_dry refl trusted
         → LeavesOnly g.S.StoreDevice.moment g.S.StoreDevice.images_since (device_of c.args.store)
         c.device.result (λ image. IsLeftByRun dry plan opening steps (told_as base image))
     by true is trust =
-        handed c.args.store c.run_over-answer.new.cache c.device.result c.device.ensures.device
+        handed c.args.store c.run_over-answer.result.1 c.device.result c.device.ensures.device
         (λ image. told_as base image ≡ Some pairs) _
         (rw is at (c.run_over-answer.ensures.dry_left store)) (λ image said. said)
     by false is trust =
         let live = rw is at (c.run_over-answer.ensures.left told store) in
-        handed c.args.store c.run_over-answer.new.cache c.device.result c.device.ensures.device
+        handed c.args.store c.run_over-answer.result.1 c.device.result c.device.ensures.device
         (λ image. HasSafePairs plan opening room steps (told_as base image)) _
         (live (ready trust)) (λ image safe. (room, safe))

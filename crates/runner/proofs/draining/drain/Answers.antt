@@ -12,7 +12,7 @@ pub waits-init : goal.waits-init
 waits-init g c = record {
   world = world-none g.W.Tree.tells c.args.plan.now (g.W.Spawner.runs c.args.world.now)
       (g.W.Tree.state c.args.world.now) c.requires.ours;
-  stays = λ told o now pairs room stands halts. halts;
+  stays = λ told o now least pairs room stands halts. halts;
   waited = λ told. waited-none (g.W.Spawner.runs c.args.world.now);
   tree = refl;
   later = omega arith;
@@ -39,10 +39,10 @@ waits-preserved-in-waits g c =
         elsewhere = λ told. elsewhere-then plan before files later (inv.world.elsewhere told)
             (elsewhere-over plan mid new w.0 files later inv.world.ours w.1);
       };
-      stays = λ told o now pairs room stands halts.
-          halts-waited plan c.halt_law.ensures o now stands mid new files later pairs room
-          inv.world.ours wait.others (inv.stays told o now pairs room stands halts) c.wait.result
-          wait.over (wait.ends told) wait.failed wait.unsaid;
+      stays = λ told o now least pairs room stands halts.
+          halts-waited plan c.halt_law.ensures o now stands least mid new files later pairs room
+          inv.world.ours wait.others (inv.stays told o now least pairs room stands halts)
+          c.wait.result wait.over (wait.ends told) wait.failed wait.unsaid;
       waited = λ told. waited-more first mid new files later (inv.waited told) c.wait.result wait.over
           (wait.ends told) wait.failed wait.unsaid
           (calm-some is_failed mid.faults new.faults c.wait.result wait.cause.counted);
@@ -71,10 +71,10 @@ waits-preserved g c =
         elsewhere = λ told. elsewhere-then plan before files later (inv.world.elsewhere told)
             (elsewhere-over plan mid new w.0 files later inv.world.ours w.1);
       };
-      stays = λ told o now pairs room stands halts.
-          halts-waited plan c.halt_law.ensures o now stands mid new files later pairs room
-          inv.world.ours wait.others (inv.stays told o now pairs room stands halts) c.wait.result
-          wait.over (wait.ends told) wait.failed wait.unsaid;
+      stays = λ told o now least pairs room stands halts.
+          halts-waited plan c.halt_law.ensures o now stands least mid new files later pairs room
+          inv.world.ours wait.others (inv.stays told o now least pairs room stands halts)
+          c.wait.result wait.over (wait.ends told) wait.failed wait.unsaid;
       waited = λ told. waited-more first mid new files later (inv.waited told) c.wait.result wait.over
           (wait.ends told) wait.failed wait.unsaid
           (calm-some is_failed mid.faults new.faults c.wait.result wait.cause.counted);

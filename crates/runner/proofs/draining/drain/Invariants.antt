@@ -3,7 +3,7 @@ use Rattle.cache_api.specs.Pairs.{Pair}
 use Rattle.run_plan.specs.Openings.{Opening}
 use Rattle.run_plan.specs.Stories.{Now}
 use Rattle.run_plan.specs.StoryLaws.{Stands}
-use Rattle.runner.specs.Halting.{HaltsNow, WorldGoes}
+use Rattle.runner.specs.Halting.{HaltsAt, WorldGoes}
 use Rattle.runner.proofs.DrainFacts.{Waited}
 use Rattle.runner.proofs.draining.drain.Given as goal
 
@@ -11,10 +11,11 @@ abbrev pub invariant-waits : goal.invariant-waits
 invariant-waits g l = record {
   world : WorldGoes g.W.Tree.tells l.plan (g.W.Spawner.runs l.initial.world)
       (g.W.Spawner.runs l.world) (g.W.Tree.state l.initial.world) (g.W.Tree.state l.world);
-  stays : g.W.Tree.tells → (o : Opening) (now : Now) (pairs : List Pair) (room : ℕ)
-      → Stands l.plan o now → HaltsNow l.plan o now (g.W.Spawner.runs l.initial.world)
+  stays : g.W.Tree.tells → (o : Opening) (now : Now) (least : ℕ) (pairs : List Pair) (room : ℕ)
+      → Stands l.plan o now → HaltsAt l.plan o now least (g.W.Spawner.runs l.initial.world)
       (g.W.Tree.state l.initial.world).files pairs room
-      → HaltsNow l.plan o now (g.W.Spawner.runs l.world) (g.W.Tree.state l.world).files pairs room;
+      → HaltsAt l.plan o now least (g.W.Spawner.runs l.world) (g.W.Tree.state l.world).files pairs
+      room;
   waited : g.W.Tree.tells
       → Waited (g.W.Spawner.runs l.initial.world) (g.W.Spawner.runs l.world);
   tree : (g.W.Tree.state l.world).faults ≡ (g.W.Tree.state l.initial.world).faults;

@@ -64,15 +64,15 @@ sound-sound-requires g c = record {
       c.in_ok-ended.ended.place c.in_ok-ended.ensures.over;
 }
 
-pub settle-requires-clause-place : goal.settle-requires-clause-place
-settle-requires-clause-place g c =
+pub report_end-requires-clause-place : goal.report_end-requires-clause-place
+report_end-requires-clause-place g c =
     end-below c.args.plan.now c.requires.plan c.args.board.now
     (g.W.Spawner.runs c.args.world.now) (g.W.Spawner.runs c.wait.new.world)
     (g.W.Tree.state c.args.world.now) (g.W.Tree.state c.wait.new.world) c.requires.steps
     c.in_ok-ended.ended.place c.in_ok-ended.ensures.over
 
-pub settle-requires-clause-log_free : goal.settle-requires-clause-log_free
-settle-requires-clause-log_free g c =
+pub report_end-requires-clause-log_free : goal.report_end-requires-clause-log_free
+report_end-requires-clause-log_free g c =
     let script = end-script c.args.plan.now c.requires.plan c.args.board.now
     (g.W.Spawner.runs c.args.world.now) (g.W.Spawner.runs c.wait.new.world)
     (g.W.Tree.state c.args.world.now) (g.W.Tree.state c.wait.new.world) c.requires.steps
@@ -85,8 +85,8 @@ settle-requires-clause-log_free g c =
     (g.W.Spawner.runs c.wait.new.world) ours (g.W.Tree.state c.wait.new.world).held
     (g.met.W.Spawner.held_by_running c.wait.new.world) c.in_ok-ended.ended.place script
 
-pub settle-requires-clause-free : goal.settle-requires-clause-free
-settle-requires-clause-free g c =
+pub report_end-requires-clause-free : goal.report_end-requires-clause-free
+report_end-requires-clause-free g c =
     let t = c.in_ok-ended.ended.place in
     let mid = g.W.Spawner.runs c.wait.new.world in
     let script = end-script c.args.plan.now c.requires.plan c.args.board.now
@@ -109,12 +109,17 @@ returns-in_err-report-clause-world g c =
     (g.W.Spawner.runs c.args.world.now) (g.W.Spawner.runs c.wait.new.world)
     (g.W.Tree.state c.args.world.now) (g.W.Tree.state c.wait.new.world) c.requires.steps
     c.in_ok-ended.ended.place c.in_ok-ended.ensures.over
-    g.W.Tree.tells (g.W.Spawner.runs c.settle.new.world) (g.W.Tree.state c.settle.new.world)
+    g.W.Tree.tells (g.W.Spawner.runs c.report_end.new.world) (g.W.Tree.state c.report_end.new.world)
     c.in_ok-ended.ended c.in_err-report.ensures.runs c.in_ok-ended.ensures.book c.in_ok-ended.ensures.ends
     c.in_err-report.ensures.others
 
 pub returns-in_err-report-clause-spent : goal.returns-in_err-report-clause-spent
-returns-in_err-report-clause-spent g c told store same =
+returns-in_err-report-clause-spent g c told store same last =
+    absurd (no-more (g.W.Spawner.runs c.args.world.now).steps (End c.in_ok-ended.ended)
+    (sym same ∙ ap (λ w. w.steps) c.in_err-report.ensures.runs ∙ (c.in_ok-ended.ensures.ends told).steps))
+
+pub returns-in_err-report-clause-stays : goal.returns-in_err-report-clause-stays
+returns-in_err-report-clause-stays g c told store same last =
     absurd (no-more (g.W.Spawner.runs c.args.world.now).steps (End c.in_ok-ended.ended)
     (sym same ∙ ap (λ w. w.steps) c.in_err-report.ensures.runs ∙ (c.in_ok-ended.ensures.ends told).steps))
 
@@ -142,7 +147,7 @@ returns-clause-steps g c =
     (g.W.Tree.state c.args.world.now) (g.W.Tree.state c.wait.new.world) c.requires.steps
     c.in_ok-ended.ended.place c.in_ok-ended.ensures.over in
     step-ended c.args.plan.now c.requires.plan (states c.args.board.now.core)
-    (g.W.Spawner.runs c.args.world.now) (g.W.Spawner.runs c.settle.new.world) ended.place
+    (g.W.Spawner.runs c.args.world.now) (g.W.Spawner.runs c.report_end.new.world) ended.place
     ended.status (states c.end.new.self.core) c.requires.calm c.end.ensures.states running
     (ap (λ w. w.at) c.in_ok-report.ensures.runs ∙ c.in_ok-ended.ensures.over.at) c.requires.steps
 
@@ -152,11 +157,11 @@ returns-clause-stands g c told store o stands =
     let board = c.args.board.now in
     let old = g.W.Spawner.runs c.args.world.now in
     let mid = g.W.Spawner.runs c.wait.new.world in
-    let new = g.W.Spawner.runs c.settle.new.world in
+    let new = g.W.Spawner.runs c.report_end.new.world in
     let tree = g.W.Tree.state c.args.world.now in
     let files = (g.W.Tree.state c.wait.new.world).files in
     let cache = g.C.Cache.state c.args.cache.now in
-    let last = g.C.Cache.state c.settle.new.cache in
+    let last = g.C.Cache.state c.report_end.new.cache in
     let now = now_of board g.W.Spawner.effect old tree cache in
     let ended = c.in_ok-ended.ended in
     let wait = c.in_ok-ended.ensures in
@@ -164,26 +169,29 @@ returns-clause-stands g c told store o stands =
     let settle = c.in_ok-report.ensures in
     let report = c.in_ok-report.report in
     let sound = c.sound-sound.result in
-    let facts : EndIs plan now ended sound report.note last.pairs last.room report = record {
+    let facts : EndIs plan now ended sound report.note last.pairs last.lasting last.room report =
+    record {
       ends = ends-now plan c.requires.plan board c.requires.board g.W.Spawner.effect old mid tree
-          files cache.pairs cache.room c.requires.steps ended sound c.requires.calm wait.over ends
-          c.sound-sound.ensures;
+          files cache.pairs cache.lasting cache.room c.requires.steps ended sound c.requires.calm
+          wait.over ends c.sound-sound.ensures;
       kept = subst (λ fs. IsKeptOf plan ended sound fs cache.pairs last.room last.pairs report.note)
           ends.files (settle.kept told store);
+      lasts = (settle.cache.lasts store).lasting;
+      within = g.met.C.Cache.within c.report_end.new.cache store;
       less = settle.cache.keeps.room;
       report_is = settle.report;
     } in
     let story = c.story_law.ensures.end plan o now ended sound report.note new.will last.pairs
-    last.room report stands c.requires.calm
+    last.lasting last.room report stands c.requires.calm
     (board-next plan board c.requires.board turn.WaitFirst c.requires.next) facts
     (rest-will plan (states board.core) ended.place old mid new settle.runs c.requires.steps
     wait.over.at wait.others) in
-    become plan o now (after_this plan now ended new.will last.pairs last.room report)
-    (now_of c.end.new.self g.W.Spawner.effect new (g.W.Tree.state c.settle.new.world) last) stands
+    become plan o now (after_this plan now ended new.will last.pairs last.lasting last.room report)
+    (now_of c.end.new.self g.W.Spawner.effect new (g.W.Tree.state c.report_end.new.world) last) stands
     (sym c.end.ensures.states)
     (ap g.W.Spawner.effect (sym (ap (λ w. w.book) settle.runs ∙ wait.book)))
     (sym (ap (λ w. w.steps) settle.runs ∙ ends.steps)) refl
-    (sym (settle.logged told ∙ ap (with_log plan ended) ends.files)) refl refl
+    (sym (settle.logged told ∙ ap (with_log plan ended) ends.files)) refl refl refl
     (sym c.end.ensures.reports) (sym c.end.ensures.logs) (sym c.end.ensures.shown) story
 
 pub returns-clause-world : goal.returns-clause-world
@@ -192,17 +200,22 @@ returns-clause-world g c =
     (g.W.Spawner.runs c.args.world.now) (g.W.Spawner.runs c.wait.new.world)
     (g.W.Tree.state c.args.world.now) (g.W.Tree.state c.wait.new.world) c.requires.steps
     c.in_ok-ended.ended.place c.in_ok-ended.ensures.over
-    g.W.Tree.tells (g.W.Spawner.runs c.settle.new.world) (g.W.Tree.state c.settle.new.world)
+    g.W.Tree.tells (g.W.Spawner.runs c.report_end.new.world) (g.W.Tree.state c.report_end.new.world)
     c.in_ok-ended.ended c.in_ok-report.ensures.runs c.in_ok-ended.ensures.book c.in_ok-ended.ensures.ends
     c.in_ok-report.ensures.others
 
+pub returns-clause-stays : goal.returns-clause-stays
+returns-clause-stays g c told store same last =
+    absurd (no-more (g.W.Spawner.runs c.args.world.now).steps (End c.in_ok-ended.ended)
+    (sym same ∙ ap (λ w. w.steps) c.in_ok-report.ensures.runs ∙ (c.in_ok-ended.ensures.ends told).steps))
+
 pub returns-clause-spends : goal.returns-clause-spends
-returns-clause-spends g c told store same =
+returns-clause-spends g c told store same last =
     absurd (no-more (g.W.Spawner.runs c.args.world.now).steps (End c.in_ok-ended.ended)
     (sym same ∙ ap (λ w. w.steps) c.in_ok-report.ensures.runs ∙ (c.in_ok-ended.ensures.ends told).steps))
 
 pub returns-clause-spent : goal.returns-clause-spent
-returns-clause-spent g c told store same =
+returns-clause-spent g c told store same last =
     absurd (no-more (g.W.Spawner.runs c.args.world.now).steps (End c.in_ok-ended.ended)
     (sym same ∙ ap (λ w. w.steps) c.in_ok-report.ensures.runs ∙ (c.in_ok-ended.ensures.ends told).steps))
 

@@ -60,8 +60,9 @@ returns-in_err-show_settled-clause-stops g c told store =
       now = mid;
       stands = turn.stands told store o stands;
       halts = halts-here plan c.halt_law.ensures board g.W.Spawner.effect world tree cache.pairs
-          cache.room turn.steps world tree.files cache.pairs cache.room refl
-          (undone-same plan (states board.core) tree.files tree.files refl) refl (omega arith) o
+          cache.lasting cache.room turn.steps world tree.files cache.pairs cache.lasting cache.room _
+          refl (undone-same plan (states board.core) tree.files tree.files refl) refl (omega arith)
+          (omega arith) o
           (turn.stands told store o stands);
       page_is = λ heard. c.in_err-show_settled.ensures.torn heard mid o before
           (turn.stands told store o stands)
@@ -102,7 +103,7 @@ returns-clause-page g c told store heard o before stands page =
     (g.K.Sink.written c.args.out.now) page)
 
 pub returns-clause-spends : goal.returns-clause-spends
-returns-clause-spends g c told store same =
+returns-clause-spends g c told store same last =
     subst (λ core. Spends c.args.plan.now g.C.Cache.state g.C.Cache.cost
     (states c.args.board.now.core) (states core) c.args.cache.now c.turn.new.cache)
-    (sym c.in_ok-show_settled.ensures.core) (c.in_ok-more.ensures.spends told store same)
+    (sym c.in_ok-show_settled.ensures.core) (c.in_ok-more.ensures.spends told store same last)

@@ -26,6 +26,7 @@ pub turns-init : goal.turns-init
 turns-init g c = record {
   current = c.requires.current;
   over = λ h. absurd (true≢false h);
+  last = λ store h. absurd (true≢false h);
   steps = c.requires.steps;
   whole = c.requires.whole;
   world = world-none g.W.Tree.tells c.args.plan.now (g.W.Spawner.runs c.args.world.now)
@@ -39,8 +40,8 @@ turns-init g c = record {
       safe-none g.C.Cache.state g.C.Cache.moment g.C.Cache.left g.C.Cache.says c.args.plan.now o
       (g.W.Spawner.runs c.args.world.now).steps c.args.cache.now
       (λ image left. g.met.C.Cache.at_rest c.args.cache.now image store c.requires.whole left)
-      (c.halt_law.ensures.safe c.args.plan.now o _ stands);
-  spends = λ told store same. omega arith;
+      (λ pairs first. c.halt_law.ensures.safe c.args.plan.now o _ pairs stands first);
+  spends = λ told store same last. (last, omega arith);
   faults = refl;
 }
 
@@ -55,6 +56,7 @@ turns-preserved g c =
     record {
       current = round.round.current;
       over = round.round.over;
+      last = λ store h. round.last store h;
       steps = round.steps;
       whole = round.whole;
       world = world-then g.W.Tree.tells plan first mid new (g.W.Tree.state c.args.world.now)
@@ -69,18 +71,19 @@ turns-preserved g c =
           plan o mid.steps new.steps c.args.cache.now c.turns.cache c.round.new.cache inv.cache.keeps
           round.cache.keeps (round.world.further told) (inv.left told store o stands)
           (round.left told store o (inv.stands told store o stands));
-      spends = λ told store same.
+      spends = λ told store same last.
           let still = grows-still first.steps mid.steps new.steps (inv.world.further told)
           (round.world.further told) same in
-          let before = inv.spends told store still.0 in
-          let after = round.spends told store still.1 in
-          omega (arith, before, after);
+          let before = inv.spends told store still.0 last in
+          let spent = before.1 in
+          let after = round.spends told store still.1 before.0 in
+          (round.stays told store still.1 before.0, omega (arith, spent, after));
       faults = round.cause ∙ inv.faults;
     }
 
 pub returns-clause-spent : goal.returns-clause-spent
-returns-clause-spent g c told store same =
-    let spends = c.turns.invariant.spends told store same in omega (arith, spends)
+returns-clause-spent g c told store same last =
+    let spends = (c.turns.invariant.spends told store same last).1 in omega (arith, spends)
 
 pub returns-in_err-more-clause-world : goal.returns-in_err-more-clause-world
 returns-in_err-more-clause-world g c =
@@ -99,7 +102,8 @@ pub returns-in_err-more-clause-stops : goal.returns-in_err-more-clause-stops
 returns-in_err-more-clause-stops g c told store =
     let inv = c.turns.invariant in
     let p = err_from_is_err_and c.from_residual.result c.from_residual.ensures.1 in
-    rw (p.1, p.2) (λ o before stands page. c.in_err-more.ensures.stops told store o before
+    let faults = ap (λ f. f.store) inv.faults in
+    rw (p.1, p.2, ← faults) (λ o before stands page. c.in_err-more.ensures.stops told store o before
     (inv.stands told store o stands)
     (λ heard. inv.page told store heard o before stands (page heard)))
 
@@ -113,13 +117,23 @@ returns-in_err-more-clause-left g c told store o stands =
     inv.cache.keeps round.cache.keeps (round.world.further told) (inv.left told store o stands)
     (round.left told store o (inv.stands told store o stands))
 
-pub returns-in_err-more-clause-spent : goal.returns-in_err-more-clause-spent
-returns-in_err-more-clause-spent g c told store same =
+pub returns-in_err-more-clause-stays : goal.returns-in_err-more-clause-stays
+returns-in_err-more-clause-stays g c told store same last =
     let inv = c.turns.invariant in
     let round = c.in_err-more.ensures in
     let still = grows-still (g.W.Spawner.runs c.args.world.now).steps
     (g.W.Spawner.runs c.turns.world).steps (g.W.Spawner.runs c.round.new.world).steps
     (inv.world.further told) (round.world.further told) same in
-    let before = inv.spends told store still.0 in
-    let after = round.spent told store still.1 in
-    omega (arith, before, after)
+    round.stays told store still.1 (inv.spends told store still.0 last).0
+
+pub returns-in_err-more-clause-spent : goal.returns-in_err-more-clause-spent
+returns-in_err-more-clause-spent g c told store same last =
+    let inv = c.turns.invariant in
+    let round = c.in_err-more.ensures in
+    let still = grows-still (g.W.Spawner.runs c.args.world.now).steps
+    (g.W.Spawner.runs c.turns.world).steps (g.W.Spawner.runs c.round.new.world).steps
+    (inv.world.further told) (round.world.further told) same in
+    let before = inv.spends told store still.0 last in
+    let spent = before.1 in
+    let after = round.spent told store still.1 before.0 in
+    omega (arith, spent, after)

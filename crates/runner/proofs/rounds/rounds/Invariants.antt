@@ -1,5 +1,6 @@
 use Rattle.std.proofs.Common.{◌≡◌, ◌+◌, false, cond}
 use Rattle.std.specs.Prelude.{IsTrue}
+use Rattle.cache_api.specs.Cache.{AllLast}
 use Rattle.run_core.specs.Core.{states}
 use Rattle.run_core.specs.Moves.{turns_left}
 use Rattle.run_plan.specs.Openings.{Opening, rules_of}
@@ -17,6 +18,7 @@ abbrev pub invariant-turns : goal.invariant-turns
 invariant-turns g l = record {
   current : IsUpToDate l.plan l.board;
   over : l.more ≡ false → IsOver l.plan l.board;
+  last : g.C.Cache.tells → l.more ≡ false → AllLast (g.C.Cache.state l.cache);
   steps : InStep l.plan (states l.board.core) (g.W.Spawner.runs l.world);
   whole : IsTrue (g.C.Cache.state l.cache).whole;
   world : WorldGoes g.W.Tree.tells l.plan (g.W.Spawner.runs l.initial.world)
@@ -41,7 +43,8 @@ invariant-turns g l = record {
       (g.W.Spawner.runs l.world).steps l.initial.cache l.cache;
   spends : g.W.Tree.tells → g.C.Cache.tells
       → (g.W.Spawner.runs l.world).steps ≡ (g.W.Spawner.runs l.initial.world).steps
-      → Spends l.plan g.C.Cache.state g.C.Cache.cost (states l.initial.board.core)
+      → AllLast (g.C.Cache.state l.initial.cache)
+      → AllLast (g.C.Cache.state l.cache) × Spends l.plan g.C.Cache.state g.C.Cache.cost (states l.initial.board.core)
       (states l.board.core) l.initial.cache l.cache;
   faults : faults_of (g.W.Tree.state l.world).faults (g.C.Cache.state l.cache).faults
       (g.W.Spawner.runs l.world).faults (g.K.Sink.faults l.out)

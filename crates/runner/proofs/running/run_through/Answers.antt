@@ -1,6 +1,7 @@
-use Rattle.std.proofs.Common.{◌≡◌, ◌++◌, ◌∙◌, ap, refl, append_assoc, length, arith, inl, inr}
+use Rattle.std.proofs.Common.{◌≡◌, ◌++◌, ◌∙◌, ap, refl, subst, append_assoc, length, arith, inl, inr}
 use Rattle.std.proofs.lemmas.Bool.{cases_Bool}
 use Rattle.std.proofs.lemmas.Result.{err_from_is_err_and}
+use Rattle.cache_api.specs.Pairs.{AreFirst}
 use Rattle.run_core.specs.Core.{states}
 use Rattle.run_core.specs.Machine.{runs, is_done}
 use Rattle.run_core.proofs.Turns.{next-tells}
@@ -54,7 +55,7 @@ returns-in_err-board-clause-stops g c told store ready =
       now = now;
       stands = stands-zero plan law valid effect world tree cache ready;
       halts = halts-zero plan law valid effect world tree cache ready c.halt_law.ensures
-          c.requires.idle;
+          c.requires.idle (c.requires.last store) _;
       page_is = λ heard. torn-none plan o (notes_in now.reports) _ (g.K.Sink.written c.args.out.now);
     })
 
@@ -68,8 +69,9 @@ returns-in_err-board-clause-left g c told store ready =
     safe-none g.C.Cache.state g.C.Cache.moment g.C.Cache.left g.C.Cache.says plan o world.steps
     c.args.cache.now
     (λ image left. g.met.C.Cache.at_rest c.args.cache.now image store c.requires.whole left)
-    (c.halt_law.ensures.safe plan o _ (stands-zero plan c.story_law.ensures c.requires.plan
-    g.W.Spawner.effect world tree cache ready))
+    (λ pairs first. c.halt_law.ensures.safe plan o _ pairs (stands-zero plan c.story_law.ensures
+    c.requires.plan g.W.Spawner.effect world tree cache ready)
+    (subst (λ n. AreFirst n cache.pairs pairs) (c.requires.last store) first))
 
 -- ---- rounds
 
@@ -94,8 +96,10 @@ returns-in_err-rounds-clause-stops g c told store ready =
     let p = err_from_is_err_and c.from_residual-in_err-rounds.result
     c.from_residual-in_err-rounds.ensures.1 in
     rw (p.1, p.2) (c.in_err-rounds.ensures.stops told store o before
-    (stands-first plan law valid effect world tree cache ready board is.states is.reports is.shown)
-    (λ heard. page-first plan law valid effect world tree cache ready board is.states is.reports
+    (stands-first plan law valid effect world tree cache ready
+    (c.requires.last store) board is.states is.reports is.shown)
+    (λ heard. page-first plan law valid effect world tree cache ready
+    (c.requires.last store) board is.states is.reports
     is.shown before))
 
 pub returns-in_err-rounds-clause-left : goal.returns-in_err-rounds-clause-left
@@ -107,14 +111,15 @@ returns-in_err-rounds-clause-left g c told store ready =
     let o = opening_of g.W.Spawner.effect world tree cache in
     let is = c.in_ok-board.ensures in
     c.in_err-rounds.ensures.left told store o (stands-first plan c.story_law.ensures c.requires.plan
-    g.W.Spawner.effect world tree cache ready c.in_ok-board.board is.states is.reports is.shown)
+    g.W.Spawner.effect world tree cache ready (c.requires.last store) c.in_ok-board.board is.states is.reports
+    is.shown)
 
 pub returns-in_err-rounds-clause-bounded : goal.returns-in_err-rounds-clause-bounded
 returns-in_err-rounds-clause-bounded g c told store same =
     let cost = g.C.Cache.cost c.args.cache.now in
     let all = all-wait cost c.args.plan.now (states c.in_ok-board.board.core)
     c.in_ok-board.ensures.states in
-    let spent = c.in_err-rounds.ensures.spent told store same in
+    let spent = c.in_err-rounds.ensures.spent told store same (c.requires.last store) in
     omega (arith, all, spent)
 
 -- ---- the end of the page
@@ -132,9 +137,11 @@ returns-in_err-conclude-clause-stops g c told store ready =
     let board = c.in_ok-board.board in
     let is = c.in_ok-board.ensures in
     let before = g.K.Sink.written c.args.out.now in
-    let first = stands-first plan law valid effect old old_tree old_cache ready board is.states
+    let first = stands-first plan law valid effect old old_tree old_cache ready
+    (c.requires.last store) board is.states
     is.reports is.shown in
-    let page = page-first plan law valid effect old old_tree old_cache ready board is.states
+    let page = page-first plan law valid effect old old_tree old_cache ready
+    (c.requires.last store) board is.states
     is.reports is.shown before in
     let world = g.W.Spawner.runs c.rounds.new.world in
     let tree = g.W.Tree.state c.rounds.new.world in
@@ -148,8 +155,9 @@ returns-in_err-conclude-clause-stops g c told store ready =
       now = last;
       stands = stands;
       halts = halts-here plan c.halt_law.ensures c.rounds.new.board effect world tree cache.pairs
-          cache.room rounds.steps world tree.files cache.pairs cache.room refl
-          (undone-same plan last.states tree.files tree.files refl) refl (omega arith) o stands;
+          cache.lasting cache.room rounds.steps world tree.files cache.pairs cache.lasting cache.room
+          _ refl (undone-same plan last.states tree.files tree.files refl) refl (omega arith)
+          (omega arith) o stands;
       page_is = λ heard. c.in_err-conclude.ensures.torn heard last o before stands
           (rounds.page told store heard o before first page) (inr rounds.over);
     })
@@ -163,14 +171,15 @@ returns-in_err-conclude-clause-left g c told store ready =
     let o = opening_of g.W.Spawner.effect world tree cache in
     let is = c.in_ok-board.ensures in
     c.in_ok-rounds.ensures.left told store o (stands-first plan c.story_law.ensures c.requires.plan
-    g.W.Spawner.effect world tree cache ready c.in_ok-board.board is.states is.reports is.shown)
+    g.W.Spawner.effect world tree cache ready (c.requires.last store) c.in_ok-board.board is.states is.reports
+    is.shown)
 
 pub returns-in_err-conclude-clause-bounded : goal.returns-in_err-conclude-clause-bounded
 returns-in_err-conclude-clause-bounded g c told store same =
     let cost = g.C.Cache.cost c.args.cache.now in
     let all = all-wait cost c.args.plan.now (states c.in_ok-board.board.core)
     c.in_ok-board.ensures.states in
-    let spent = c.in_ok-rounds.ensures.spent told store same in
+    let spent = c.in_ok-rounds.ensures.spent told store same (c.requires.last store) in
     omega (arith, all, spent)
 
 -- ---- a run that came to its end
@@ -195,14 +204,15 @@ returns-clause-left g c told store ready =
     let o = opening_of g.W.Spawner.effect world tree cache in
     let is = c.in_ok-board.ensures in
     c.in_ok-rounds.ensures.left told store o (stands-first plan c.story_law.ensures c.requires.plan
-    g.W.Spawner.effect world tree cache ready c.in_ok-board.board is.states is.reports is.shown)
+    g.W.Spawner.effect world tree cache ready (c.requires.last store) c.in_ok-board.board is.states is.reports
+    is.shown)
 
 pub returns-clause-bounded : goal.returns-clause-bounded
 returns-clause-bounded g c told store same =
     let cost = g.C.Cache.cost c.args.cache.now in
     let all = all-wait cost c.args.plan.now (states c.in_ok-board.board.core)
     c.in_ok-board.ensures.states in
-    let spent = c.in_ok-rounds.ensures.spent told store same in
+    let spent = c.in_ok-rounds.ensures.spent told store same (c.requires.last store) in
     omega (arith, all, spent)
 
 pub returns-clause-ran : goal.returns-clause-ran

@@ -1,5 +1,5 @@
 use Rattle.std.proofs.Common.{◌∙◌, ap, sym, refl, arith, ◌++◌, ◌∷◌, []}
-use Rattle.std.specs.Prelude.{is_some}
+use Rattle.std.specs.Prelude.{⊤, is_some}
 use Rattle.std.proofs.lemmas.Result.{err_from_is_err_and}
 use Rattle.globs.specs.OwnedFiles.{cleared}
 use Rattle.spawn_dev.specs.declared.command.Step.TheVariants.{Start}
@@ -29,14 +29,15 @@ returns-in_err-command-clause-halts g c told =
     let plan = c.args.plan.now in
     let tree = g.W.Tree.state c.args.world.now in
     let p = err_from_is_err_and c.from_residual.result c.from_residual.ensures.1 in
-    rw p.1 (λ pairs room. halts-here plan c.halt_law.ensures c.args.board.now g.W.Spawner.effect
-    (g.W.Spawner.runs c.args.world.now) tree pairs room c.requires.steps
-    (g.W.Spawner.runs c.args.world.now) tree.files pairs room refl
-    (undone-same plan (states c.args.board.now.core) tree.files tree.files refl) refl (omega arith))
+    rw p.1 (λ pairs lasting room. halts-here plan c.halt_law.ensures c.args.board.now g.W.Spawner.effect
+    (g.W.Spawner.runs c.args.world.now) tree pairs lasting room c.requires.steps
+    (g.W.Spawner.runs c.args.world.now) tree.files pairs lasting room ⊤ refl
+    (undone-same plan (states c.args.board.now.core) tree.files tree.files refl) refl (omega arith)
+    (omega arith))
 
 pub returns-in_err-command-clause-safe : goal.returns-in_err-command-clause-safe
-returns-in_err-command-clause-safe g c told o pairs room stands =
-    c.halt_law.ensures.safe c.args.plan.now o _ stands
+returns-in_err-command-clause-safe g c told o pairs left lasting room stands first =
+    c.halt_law.ensures.safe c.args.plan.now o _ left stands first
 
 pub returns-in_err-clear_owned-clause-world : goal.returns-in_err-clear_owned-clause-world
 returns-in_err-clear_owned-clause-world g c =
@@ -62,18 +63,18 @@ returns-in_err-clear_owned-clause-halts g c told =
     let files = (g.W.Tree.state c.clear_owned.new.world).files in
     let p = err_from_is_err_and c.from_residual-in_err-clear_owned.result
     c.from_residual-in_err-clear_owned.ensures.1 in
-    rw p.1 (λ pairs room. halts-here plan c.halt_law.ensures c.args.board.now g.W.Spawner.effect
-    (g.W.Spawner.runs c.args.world.now) tree pairs room c.requires.steps
-    (g.W.Spawner.runs c.clear_owned.new.world) files pairs room clear.runs
+    rw p.1 (λ pairs lasting room. halts-here plan c.halt_law.ensures c.args.board.now g.W.Spawner.effect
+    (g.W.Spawner.runs c.args.world.now) tree pairs lasting room c.requires.steps
+    (g.W.Spawner.runs c.clear_owned.new.world) files pairs lasting room ⊤ clear.runs
     (undone-only plan st t tree.files files (c.requires.steps.scripts t (ap is_begun missed))
-    (ap is_done missed) (clear.others told)) refl (omega arith))
+    (ap is_done missed) (clear.others told)) refl (omega arith) (omega arith))
 
 pub returns-in_err-clear_owned-clause-safe : goal.returns-in_err-clear_owned-clause-safe
-returns-in_err-clear_owned-clause-safe g c told o pairs room stands =
+returns-in_err-clear_owned-clause-safe g c told o pairs left lasting room stands first =
     safe-steps c.args.plan.now o room (g.W.Spawner.runs c.args.world.now).steps
-    (g.W.Spawner.runs c.clear_owned.new.world).steps pairs
+    (g.W.Spawner.runs c.clear_owned.new.world).steps left
     (ap (λ w. w.steps) c.in_err-clear_owned.ensures.runs)
-    (c.halt_law.ensures.safe c.args.plan.now o _ stands)
+    (c.halt_law.ensures.safe c.args.plan.now o _ left stands first)
 
 pub returns-in_err-start-clause-world : goal.returns-in_err-start-clause-world
 returns-in_err-start-clause-world g c =
@@ -114,21 +115,21 @@ returns-in_err-start-clause-halts g c told =
     (ap is_done missed) (clear.others told)) (undone-same plan st mid files start.files) in
     let p = err_from_is_err_and c.from_residual-in_err-start.result
     c.from_residual-in_err-start.ensures.1 in
-    rw p.1 (λ pairs room. halts-early plan c.halt_law.ensures c.args.board.now g.W.Spawner.effect
-    (g.W.Spawner.runs c.args.world.now) tree pairs room c.requires.steps
-    (g.W.Spawner.runs c.start.new.world) files pairs room
+    rw p.1 (λ pairs lasting room. halts-early plan c.halt_law.ensures c.args.board.now g.W.Spawner.effect
+    (g.W.Spawner.runs c.args.world.now) tree pairs lasting room c.requires.steps
+    (g.W.Spawner.runs c.start.new.world) files pairs lasting room ⊤
     (λ u lives. ap (λ f. is_some (f u)) (sym (start.refused.at ∙ ap (λ w. w.at) clear.runs)) ∙ lives)
     (start.refused.steps ∙ ap (λ w. w.steps) clear.runs)
     (λ u was lives. start.others u (ap (λ w. live w u) clear.runs ∙ was) lives
     ∙ ap (λ w. w.will u) clear.runs)
-    undone refl (omega arith))
+    undone refl (omega arith) (omega arith))
 
 pub returns-in_err-start-clause-safe : goal.returns-in_err-start-clause-safe
-returns-in_err-start-clause-safe g c told o pairs room stands =
+returns-in_err-start-clause-safe g c told o pairs left lasting room stands first =
     safe-steps c.args.plan.now o room (g.W.Spawner.runs c.args.world.now).steps
-    (g.W.Spawner.runs c.start.new.world).steps pairs
+    (g.W.Spawner.runs c.start.new.world).steps left
     (c.in_err-start.ensures.refused.steps ∙ ap (λ w. w.steps) c.in_ok-clear_owned.ensures.runs)
-    (c.halt_law.ensures.safe c.args.plan.now o _ stands)
+    (c.halt_law.ensures.safe c.args.plan.now o _ left stands first)
 
 pub returns-clause-steps : goal.returns-clause-steps
 returns-clause-steps g c =
@@ -169,7 +170,7 @@ returns-clause-world g c =
     }
 
 pub returns-clause-stands : goal.returns-clause-stands
-returns-clause-stands g c told pairs room o stands =
+returns-clause-stands g c told pairs lasting room o stands =
     let plan = c.args.plan.now in
     let t = c.args.place in
     let st = states c.args.board.now.core in
@@ -181,7 +182,7 @@ returns-clause-stands g c told pairs room o stands =
     let files = (g.W.Tree.state c.args.world.now).files in
     let cleared_files = (g.W.Tree.state c.clear_owned.new.world).files in
     let now = now_at c.args.board.now g.W.Spawner.effect old (g.W.Tree.state c.args.world.now) pairs
-    room in
+    lasting room in
     let begins = c.in_ok-start.ensures.begins told in
     let started = c.in_ok-start.ensures.started in
     let clear = c.in_ok-clear_owned.ensures in
@@ -199,17 +200,19 @@ returns-clause-stands g c told pairs room o stands =
       will = new.will;
       files = cleared (part_at plan.listing t).outs files;
     })
-    (now_at c.begin.new.self g.W.Spawner.effect new (g.W.Tree.state c.start.new.world) pairs room)
+    (now_at c.begin.new.self g.W.Spawner.effect new (g.W.Tree.state c.start.new.world) pairs lasting
+    room)
     stands (sym c.begin.ensures.states)
     (ap g.W.Spawner.effect (sym (c.in_ok-start.ensures.book ∙ ap (λ w. w.book) clear.runs)))
     (sym (own-steps plan st t command command_is old mid new clear.runs started g.W.Spawner.effect
     cleared_files begins))
-    refl (sym (c.in_ok-start.ensures.files ∙ clear.cleared told)) refl refl
+    refl (sym (c.in_ok-start.ensures.files ∙ clear.cleared told)) refl refl refl
     (sym c.begin.ensures.reports) (sym c.begin.ensures.logs) (sym c.begin.ensures.shown) story
 
 pub returns-clause-safe : goal.returns-clause-safe
-returns-clause-safe g c told o pairs room stands =
-    c.halt_law.ensures.safe c.args.plan.now o _ (returns-clause-stands g c told pairs room o stands)
+returns-clause-safe g c told o pairs left lasting room stands first =
+    c.halt_law.ensures.safe c.args.plan.now o _ left
+    (returns-clause-stands g c told pairs lasting room o stands) first
 
 pub clear_owned-requires-clause-free : goal.clear_owned-requires-clause-free
 clear_owned-requires-clause-free = Needs.clear_owned-requires-clause-free

@@ -3,13 +3,12 @@ use Rattle.std.proofs.Common.{◌+◌, ℕ, List, inl, inr, refl, sym, ap, subst
 use Rattle.std.proofs.Math.Path.{transport}
 use Rattle.std.specs.Prelude.{Option, IsTrue}
 use Rattle.cache_api.specs.Pairs.{Pair}
-use Rattle.artifact_store.specs.Store.{state_of}
+use Rattle.artifact_store.specs.Store.{lengths_of, state_of}
 use Rattle.artifact_store.specs.Pairs.{told_as}
-use Rattle.pair_reader.specs.declared.wanted.Lengths.TheVariants as Lengths
 use Rattle.compact.specs.Current.{generation_in}
 use Rattle.relay_store.specs.Stores.{state_in}
-use Rattle.answers.specs.Answers.{HasCauseIn, counts_at}
-use Rattle.answers.specs.Facts.{if_fault, if_refused}
+use Rattle.answers.specs.Answers.{HasRunCause, counts_at}
+use Rattle.answers.specs.Facts.{cause_of_run, if_fault, if_refused}
 use Rattle.answers.specs.Moments.{Held, moment_of}
 use Rattle.cache_runs.proofs.Causes.{cause_in_sum}
 use Rattle.cache_runs.proofs.Finished.{done_as, done_both}
@@ -53,28 +52,28 @@ returns-in-Ok-clause-lasts g c t =
 pub returns-in-Ok-clause-refused : goal.returns-in-Ok-clause-refused
 returns-in-Ok-clause-refused g c t u =
     if_refused c.with_second-answer.result.0 _ _
-    (λ reason bad. inr (opened_sound c.args.local Lengths.All c.in-Ok.opened c.in-Ok.ensures.opened t, bad))
+    (λ reason bad. inr (opened_sound c.args.local (lengths_of c.in-Ok.opened) c.in-Ok.opened c.in-Ok.ensures.opened t, bad))
     (c.with_second-answer.ensures.refused u)
 
 pub returns-in-Ok-clause-reread : goal.returns-in-Ok-clause-reread
 returns-in-Ok-clause-reread g c t =
     if_refused c.with_second-answer.result.0 _ _
-    (λ reason kept. kept_reread c.args.local Lengths.All c.in-Ok.opened c.in-Ok.ensures.opened t c.with_second-answer.result.1 c.device_in.result c.device_in.ensures.device kept)
+    (λ reason kept. kept_reread c.args.local (lengths_of c.in-Ok.opened) c.in-Ok.opened c.in-Ok.ensures.opened t c.with_second-answer.result.1 c.device_in.result c.device_in.ensures.device kept)
     c.with_second-answer.ensures.kept
 
 pub returns-in-Ok-clause-stopped : goal.returns-in-Ok-clause-stopped
 returns-in-Ok-clause-stopped g c told t u heard kept =
-    let sound = opened_sound c.args.local Lengths.All c.in-Ok.opened c.in-Ok.ensures.opened t in
+    let sound = opened_sound c.args.local (lengths_of c.in-Ok.opened) c.in-Ok.opened c.in-Ok.ensures.opened t in
     if_fault c.with_second-answer.result.0 _ _
     (stops_as _ _ (λ reason bad. inr (sound, bad)) c.args.is_dry c.args.access _ c.args.plan.now _ _ _)
     (c.with_second-answer.ensures.stopped told t u heard (held_by (g.D.StoreDevice.content c.args.local)) (c.in-Ok.ensures.opened.pairs t) kept)
 
 pub returns-in-Ok-clause-sound : goal.returns-in-Ok-clause-sound
 returns-in-Ok-clause-sound g c t u =
-    stays_or c.args.local Lengths.All c.in-Ok.opened c.in-Ok.ensures.opened t c.with_second-answer.result.1 c.device_in.result c.device_in.ensures.device
+    stays_or c.args.local (lengths_of c.in-Ok.opened) c.in-Ok.opened c.in-Ok.ensures.opened t c.with_second-answer.result.1 c.device_in.result c.device_in.ensures.device
     _ (AddsTo c.args.access.local_puts (g.D.StoreDevice.images c.args.local)) (c.with_second-answer.ensures.sound t u)
     (λ image one. let (d, now, is) = one in (d, now, inl is))
-    (further c.args.local Lengths.All c.in-Ok.opened c.in-Ok.ensures.opened t c.args.access.local_puts (g.met.D.StoreDevice.as_it_reads c.args.local t))
+    (further c.args.local (lengths_of c.in-Ok.opened) c.in-Ok.opened c.in-Ok.ensures.opened t c.args.access.local_puts (g.met.D.StoreDevice.as_it_reads c.args.local t))
 
 pub returns-in-Ok-clause-left : goal.returns-in-Ok-clause-left
 returns-in-Ok-clause-left g c told t u trusted =
@@ -86,12 +85,12 @@ returns-in-Ok-clause-left g c told t u trusted =
     let old = moment_of (g.W.Tree.state c.args.world.now) runs held (g.K.Sink.written c.args.out.now) in
     let steps = (g.W.Spawner.runs c.with_second-answer.new.world).steps in
     let left = λ (told_pairs : Option (List Pair)). IsLeftOfLocal c.args.is_dry c.args.access (g.W.Spawner.effect runs.book) c.args.plan.now old steps told_pairs in
-    stays_or c.args.local Lengths.All c.in-Ok.opened opened t c.with_second-answer.result.1 c.device_in.result c.device_in.ensures.device
+    stays_or c.args.local (lengths_of c.in-Ok.opened) c.in-Ok.opened opened t c.with_second-answer.result.1 c.device_in.result c.device_in.ensures.device
     (λ image. left (told_as (state_of c.in-Ok.opened).base image))
     (IsLeftInLocal c.args.is_dry c.args.access (g.W.Spawner.effect runs.book) c.args.plan.now old steps (generation_in (d.content c.args.local)) (d.images c.args.local))
     (c.with_second-answer.ensures.left told t u own (opened.pairs t) trusted)
     (λ image one. inl one)
-    (λ image was. inr (subst (λ (n : ℕ). left (told_as n image)) (opened_generation c.args.local Lengths.All c.in-Ok.opened opened t) was))
+    (λ image was. inr (subst (λ (n : ℕ). left (told_as n image)) (opened_generation c.args.local (lengths_of c.in-Ok.opened) c.in-Ok.opened opened t) was))
 
 pub returns-in-Ok-clause-second_left : goal.returns-in-Ok-clause-second_left
 returns-in-Ok-clause-second_left g c told t u trusted =
@@ -101,7 +100,7 @@ pub returns-in-Ok-clause-cause : goal.returns-in-Ok-clause-cause
 returns-in-Ok-clause-cause g c =
     let old = ap (λ (n : ℕ). n + g.R.StoreDevice.store_faults c.args.second) c.in-Ok.ensures.opened.cause in
     let new = ap (λ (n : ℕ). n + g.R.StoreDevice.store_faults c.with_second-answer.result.2) (faults_of c.with_second-answer.result.1 c.device_in.result c.device_in.ensures.device) in
-    transport (λ i. HasCauseIn
+    transport (λ i. HasRunCause
     (counts_at (g.W.Tree.state c.args.world.now) (g.W.Spawner.runs c.args.world.now) (old i) (g.K.Sink.faults c.args.out.now))
     (counts_at (g.W.Tree.state c.with_second-answer.new.world) (g.W.Spawner.runs c.with_second-answer.new.world) (new i) (g.K.Sink.faults c.with_second-answer.new.out))
     c.with_second-answer.result.0) c.with_second-answer.ensures.cause
@@ -158,4 +157,5 @@ returns-in-Err-clause-cause g c =
     cause_in_sum tree tree start start (g.K.Sink.faults c.args.out.now)
     (g.K.Sink.faults c.unopened.new.out) before after (g.R.StoreDevice.store_faults c.args.second)
     _ _ c.unopened.result refl refl
-    (c.unopened.ensures.cause tree start before after c.in-Err.ensures.unopened.cause)
+    (cause_of_run _ _ c.unopened.result
+    (c.unopened.ensures.cause tree start before after c.in-Err.ensures.unopened.cause))

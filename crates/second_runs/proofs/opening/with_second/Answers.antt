@@ -4,15 +4,14 @@ use Rattle.std.proofs.Math.Path.{transport}
 use Rattle.std.specs.Prelude.{Option, IsTrue}
 use Rattle.cache_api.specs.Pairs.{Pair}
 use Rattle.record_log.specs.Frames.{ReadsAsOneOf}
-use Rattle.artifact_store.specs.Store.{device_of, state_of}
+use Rattle.artifact_store.specs.Store.{device_of, lengths_of, state_of}
 use Rattle.artifact_store.specs.Pairs.{told_as}
-use Rattle.pair_reader.specs.declared.wanted.Lengths.TheVariants as Lengths
 use Rattle.compact.specs.Current.{generation_in}
 use Rattle.store_dev.specs.Moments.{leaves_more, leaves_then}
 use Rattle.relay_store.specs.Stores.{state_in}
 use Rattle.refusals.specs.declared.refusal.StoreFile.TheVariants as file
-use Rattle.answers.specs.Answers.{HasCauseIn, counts_at}
-use Rattle.answers.specs.Facts.{if_fault, if_refused}
+use Rattle.answers.specs.Answers.{HasRunCause, counts_at}
+use Rattle.answers.specs.Facts.{cause_of_run, if_fault, if_refused}
 use Rattle.answers.specs.Moments.{Held, moment_of}
 use Rattle.cache_runs.proofs.Causes.{cause_in_sum}
 use Rattle.cache_runs.proofs.Finished.{done_as, done_both}
@@ -69,7 +68,7 @@ returns-in-Ok-clause-sound g c t u = inr (c.run_opened-answer.ensures.local_soun
 
 pub returns-in-Ok-clause-second_sound : goal.returns-in-Ok-clause-second_sound
 returns-in-Ok-clause-second_sound g c t u =
-    opened_adds c.args.second Lengths.All c.in-Ok.opened c.in-Ok.ensures.opened u c.args.access.second_puts
+    opened_adds c.args.second (lengths_of c.in-Ok.opened) c.in-Ok.opened c.in-Ok.ensures.opened u c.args.access.second_puts
     (g.met.R.StoreDevice.as_it_reads c.args.second u) c.device_in.result
     (handed c.in-Ok.opened c.run_opened-answer.result.2 c.device_in.result c.device_in.ensures.device _ (c.run_opened-answer.ensures.second_sound t u))
 
@@ -98,14 +97,14 @@ returns-in-Ok-clause-second_left g c told t u own is trusted =
     (opened.images u)
     (handed c.in-Ok.opened c.run_opened-answer.result.2 c.device_in.result c.device_in.ensures.device _ (c.run_opened-answer.ensures.second_left told t u held (trusted both)))
     (λ image one. inl one)
-    (λ image was. inr (both, subst (λ (n : ℕ). left (told_as n image)) (opened_generation c.args.second Lengths.All c.in-Ok.opened opened u) was))
+    (λ image was. inr (both, subst (λ (n : ℕ). left (told_as n image)) (opened_generation c.args.second (lengths_of c.in-Ok.opened) c.in-Ok.opened opened u) was))
 
 pub returns-in-Ok-clause-cause : goal.returns-in-Ok-clause-cause
 returns-in-Ok-clause-cause g c =
     let local = (state_in c.args.local).faults in
     let old = ap (λ (n : ℕ). local + n) c.in-Ok.ensures.opened.cause in
     let new = ap (λ (n : ℕ). (state_in c.run_opened-answer.result.1).faults + n) (faults_of c.run_opened-answer.result.2 c.device_in.result c.device_in.ensures.device) in
-    transport (λ i. HasCauseIn
+    transport (λ i. HasRunCause
     (counts_at (g.W.Tree.state c.args.world.now) (g.W.Spawner.runs c.args.world.now) (old i) (g.K.Sink.faults c.args.out.now))
     (counts_at (g.W.Tree.state c.run_opened-answer.new.world) (g.W.Spawner.runs c.run_opened-answer.new.world) (new i) (g.K.Sink.faults c.run_opened-answer.new.out))
     c.run_opened-answer.result.0) c.run_opened-answer.ensures.cause
@@ -157,4 +156,5 @@ returns-in-Err-clause-cause g c =
     cause_in_sum tree tree start start (g.K.Sink.faults c.args.out.now)
     (g.K.Sink.faults c.unopened.new.out) before after (state_in c.args.local).faults _ _
     c.unopened.result (omega arith) (omega arith)
-    (c.unopened.ensures.cause tree start before after c.in-Err.ensures.unopened.cause)
+    (cause_of_run _ _ c.unopened.result
+    (c.unopened.ensures.cause tree start before after c.in-Err.ensures.unopened.cause))

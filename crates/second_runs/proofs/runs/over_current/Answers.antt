@@ -6,7 +6,7 @@ use Rattle.compact.specs.declared.side.Side.TheVariants.{First, Spare}
 use Rattle.compact.specs.Current.{generation_in}
 use Rattle.answers.specs.Answers.{IfDone}
 use Rattle.answers.specs.Stops.{IfFault}
-use Rattle.answers.specs.Facts.{if_fault, if_refused}
+use Rattle.answers.specs.Facts.{cause_of_run, if_fault, if_refused}
 use Rattle.answers.specs.Moments.{moment_of}
 use Rattle.cache_runs.proofs.Causes.{cause_in_sum}
 use Rattle.cache_runs.proofs.Finished.{done_all, refused_all}
@@ -454,5 +454,5 @@ returns-in-Err-clause-cause g c =
     cause_in_sum tree tree start start (g.K.Sink.faults c.args.out.now)
     (g.K.Sink.faults c.not_current.new.out) (a + b) (now_a + now_b)
     (g.R.StoreDevice.store_faults c.args.second) _ _ c.not_current.result refl refl
-    (c.not_current.ensures.cause tree start a now_a b now_b
-    (raised_of _ _ _ _ found.result.0 c.in-Err.fault c.in-Err.is found.ensures.cause))
+    (cause_of_run _ _ c.not_current.result (c.not_current.ensures.cause tree start a now_a b now_b
+    (raised_of _ _ _ _ found.result.0 c.in-Err.fault c.in-Err.is found.ensures.cause)))

@@ -7,7 +7,7 @@ use Rattle.cli_words.specs.Orders.{order_of}
 use Rattle.cli_words.specs.declared.order.Order.TheVariants.{Run, Sample}
 use Rattle.compact.specs.Current.{current_of}
 use Rattle.answers.specs.Answers.{IfDone, IfRefused, HasCauseIn, counts_of}
-use Rattle.answers.specs.Facts.{completes, if_refused, no_fault}
+use Rattle.answers.specs.Facts.{completes, if_refused, no_fault, run_completes}
 use Rattle.second_runs.proofs.Reading.{alone_reread}
 use Rattle.run_orders.specs.Moments.{at_moment, stores_at}
 use Rattle.run_orders.specs.Uses.{uses_of}
@@ -767,7 +767,7 @@ returns-in-Ok-Run-clause-complete g c told store spare second shared =
     let refusable = stores_at g.S.StoreDevice.content g.P.StoreDevice.content
     g.R.StoreDevice.content g.H.Shared.content g.H.Shared.coming c.args.store c.args.spare
     c.args.second c.args.shared in
-    completes _ _ c.run_order.result.0 _ (cause_told (uses_of c.in-Ok-Run.order) _ _ _
+    run_completes _ _ c.run_order.result.0 _ (cause_told (uses_of c.in-Ok-Run.order) _ _ _
     c.run_order.result.0 shared c.run_order.ensures.cause)
     (if_refused c.run_order.result.0 _ _ (λ reason is. subst (λ o. IsRefusedOrder o c.args.env.now
     files refusable reason)

@@ -26,10 +26,10 @@ returns-clause-ran g c told store ready =
     let board = c.in_ok-board.board in
     let is = c.in_ok-board.ensures in
     let before = g.K.Sink.written c.args.out.now in
-    let first = stands-first plan law c.requires.plan effect old old_tree old_cache ready board
-    is.states is.reports is.shown in
-    let page = page-first plan law c.requires.plan effect old old_tree old_cache ready board
-    is.states is.reports is.shown before in
+    let first = stands-first plan law c.requires.plan effect old old_tree old_cache ready
+    (c.requires.last store) board is.states is.reports is.shown in
+    let page = page-first plan law c.requires.plan effect old old_tree old_cache ready
+    (c.requires.last store) board is.states is.reports is.shown before in
     let last = now_of c.rounds.new.board effect (g.W.Spawner.runs c.rounds.new.world)
     (g.W.Tree.state c.rounds.new.world) (g.C.Cache.state c.rounds.new.cache) in
     let rounds = c.in_ok-rounds.ensures in
