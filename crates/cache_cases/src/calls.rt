@@ -1,5 +1,6 @@
 // Calls on a cache, whatever keeps it.
 ghost use Rattle.std.specs.Prelude.{◌≡◌, true, false, IsTrue, IfOk};
+ghost use Rattle.cache_api.specs.Cache.{AllLast};
 
 use crate::parts;
 use anyhow::{Result, anyhow};
@@ -40,8 +41,12 @@ fn failed(alloc: Global, error: CacheErr) -> Result<Came>
 
 // The side of the hit and the artifact, or `null`.
 fn find<C: Cache>(alloc: Global, cache: &mut C, outs: &OutSet, key: &[u8]) -> Result<Came>
-    requires { IsTrue (C.state cache.old).whole }
-    ensures { IfOk result (λ came. came.goes_on ≡ true → IsTrue (C.state cache.new).whole) }
+    requires whole { IsTrue (C.state cache.old).whole }
+    requires last { C.tells → AllLast (C.state cache.old) }
+    ensures whole { IfOk result (λ came. came.goes_on ≡ true
+        → IsTrue (C.state cache.new).whole) }
+    ensures last { C.tells
+        → IfOk result (λ came. came.goes_on ≡ true → AllLast (C.state cache.new)) }
 {
     let hit = match cache.lookup(alloc, key, outs) {
         Ok(Some(hit)) => hit,
@@ -55,8 +60,12 @@ fn find<C: Cache>(alloc: Global, cache: &mut C, outs: &OutSet, key: &[u8]) -> Re
 }
 
 fn put<C: Cache>(alloc: Global, cache: &mut C, key: &[u8], artifact: &Artifact) -> Result<Came>
-    requires { IsTrue (C.state cache.old).whole }
-    ensures { IfOk result (λ came. came.goes_on ≡ true → IsTrue (C.state cache.new).whole) }
+    requires whole { IsTrue (C.state cache.old).whole }
+    requires last { C.tells → AllLast (C.state cache.old) }
+    ensures whole { IfOk result (λ came. came.goes_on ≡ true
+        → IsTrue (C.state cache.new).whole) }
+    ensures last { C.tells
+        → IfOk result (λ came. came.goes_on ≡ true → AllLast (C.state cache.new)) }
 {
     match cache.put(alloc, key, artifact) {
         Ok(()) => Ok(went(answers::text(alloc, "ok")?)),
@@ -86,8 +95,12 @@ fn put_all<C: Cache>(
     keys: &[Vec<u8>],
     artifacts: &[Artifact],
 ) -> Result<Came>
-    requires { IsTrue (C.state cache.old).whole }
-    ensures { IfOk result (λ came. came.goes_on ≡ true → IsTrue (C.state cache.new).whole) }
+    requires whole { IsTrue (C.state cache.old).whole }
+    requires last { C.tells → AllLast (C.state cache.old) }
+    ensures whole { IfOk result (λ came. came.goes_on ≡ true
+        → IsTrue (C.state cache.new).whole) }
+    ensures last { C.tells
+        → IfOk result (λ came. came.goes_on ≡ true → AllLast (C.state cache.new)) }
 {
     let mut pairs = Vec::new(alloc);
     for (key, artifact) in keys.iter().zip(artifacts) {
@@ -101,8 +114,12 @@ fn put_all<C: Cache>(
 }
 
 fn put_pairs<C: Cache>(alloc: Global, cache: &mut C, pairs: &[Value]) -> Result<Came>
-    requires { IsTrue (C.state cache.old).whole }
-    ensures { IfOk result (λ came. came.goes_on ≡ true → IsTrue (C.state cache.new).whole) }
+    requires whole { IsTrue (C.state cache.old).whole }
+    requires last { C.tells → AllLast (C.state cache.old) }
+    ensures whole { IfOk result (λ came. came.goes_on ≡ true
+        → IsTrue (C.state cache.new).whole) }
+    ensures last { C.tells
+        → IfOk result (λ came. came.goes_on ≡ true → AllLast (C.state cache.new)) }
 {
     let mut keys = Vec::new(alloc);
     let mut artifacts = Vec::new(alloc);
@@ -115,8 +132,12 @@ fn put_pairs<C: Cache>(alloc: Global, cache: &mut C, pairs: &[Value]) -> Result<
 
 // A call is a list: its name, and a key, a pair or a list of pairs.
 fn call_of<C: Cache>(alloc: Global, cache: &mut C, outs: &OutSet, call: &Value) -> Result<Came>
-    requires { IsTrue (C.state cache.old).whole }
-    ensures { IfOk result (λ came. came.goes_on ≡ true → IsTrue (C.state cache.new).whole) }
+    requires whole { IsTrue (C.state cache.old).whole }
+    requires last { C.tells → AllLast (C.state cache.old) }
+    ensures whole { IfOk result (λ came. came.goes_on ≡ true
+        → IsTrue (C.state cache.new).whole) }
+    ensures last { C.tells
+        → IfOk result (λ came. came.goes_on ≡ true → AllLast (C.state cache.new)) }
 {
     let items = inputs::as_list(call)?;
     let given = inputs::item(items, 1)?;
@@ -133,7 +154,8 @@ fn call_of<C: Cache>(alloc: Global, cache: &mut C, outs: &OutSet, call: &Value) 
 
 /// What calls answer, up to one behind which the cache may not be used.
 pub fn answers_of<C: Cache>(alloc: Global, cache: &mut C, list: &[Value]) -> Result<Value>
-    requires { IsTrue (C.state cache.old).whole }
+    requires whole { IsTrue (C.state cache.old).whole }
+    requires last { C.tells → AllLast (C.state cache.old) }
 {
     let outs = parts::outs(alloc)?;
     let mut found = Vec::new(alloc);

@@ -1,9 +1,9 @@
 // One run over a store, to see that the clauses of a store suffice for those who use it through the trait alone.
-ghost use Rattle.std.specs.Prelude.{IsTrue};
+ghost use Rattle.std.specs.Prelude.{◌++◌, ◌∷◌, [], IsTrue};
 ghost use Rattle.store_dev.specs.Device.{LeavesOnly};
 ghost use Rattle.cache_api.specs.Artifacts.{artifact as held};
 ghost use Rattle.cache_api.specs.Moments.{Leaves};
-ghost use Rattle.cache_api.specs.Pairs.{pair_for, IsWithOrWithout};
+ghost use Rattle.cache_api.specs.Pairs.{pair_for, IsPartSince};
 ghost use Rattle.device_cases.specs.Session.{IsLeftBy};
 
 use artifact_store::Store;
@@ -15,8 +15,9 @@ use store_dev::StoreDevice;
 pub fn keep<C: Cache>(alloc: Global, cache: &mut C, key: &[u8], artifact: &Artifact) -> bool
     requires { IsTrue (C.state cache.old).whole }
     ensures { C.tells → Leaves C.moment C.left cache.old cache.new
-        (λ image. IsWithOrWithout (C.state cache.old).pairs
-        (pair_for key.now (held artifact.now)) (C.says (C.state cache.old).base image)) }
+        (λ image. IsPartSince (C.state cache.old).lasting
+        ((C.state cache.old).pairs ++ pair_for key.now (held artifact.now) ∷ [])
+        (C.says (C.state cache.old).base image)) }
 {
     cache.put(alloc, key, artifact).is_ok()
 }

@@ -6,6 +6,7 @@
 #![tactic(auto)]
 
 ghost use Rattle.std.specs.Prelude.{◌≡◌, false, IsTrue, OnOk};
+ghost use Rattle.cache_api.specs.Cache.{AllLast};
 
 use anyhow::{Result, bail};
 use cache_api::{Artifact, Cache};
@@ -43,7 +44,8 @@ fn no_outputs(alloc: Global) -> Result<OutSet> {
 
 fn put_one<C: Cache>(alloc: Global, cache: &mut C, name: &str, number: u64) -> Result<()>
     requires { IsTrue (C.state cache.old).whole }
-    ensures { OnOk result (IsTrue (C.state cache.new).whole) }
+    ensures whole { OnOk result (IsTrue (C.state cache.new).whole) }
+    ensures last { C.tells → OnOk result (AllLast (C.state cache.new)) }
 {
     let key = key_of(alloc, name, number)?;
     let artifact = artifact_of(alloc, key.as_str())?;
@@ -55,8 +57,10 @@ fn put_one<C: Cache>(alloc: Global, cache: &mut C, name: &str, number: u64) -> R
 
 // Puts so many results, one by one.
 fn add<C: Cache>(alloc: Global, cache: &mut C, name: &str, count: u64) -> Result<()>
-    requires { IsTrue (C.state cache.old).whole }
-    ensures { OnOk result (IsTrue (C.state cache.new).whole) }
+    requires whole { IsTrue (C.state cache.old).whole }
+    requires last { C.tells → AllLast (C.state cache.old) }
+    ensures whole { OnOk result (IsTrue (C.state cache.new).whole) }
+    ensures last { C.tells → OnOk result (AllLast (C.state cache.new)) }
 {
     for number in 0..count {
         put_one(alloc, cache, name, number)?;
@@ -72,8 +76,10 @@ fn is_found<C: Cache>(
     name: &str,
     number: u64,
 ) -> Result<bool>
-    requires { IsTrue (C.state cache.old).whole }
-    ensures { OnOk result (IsTrue (C.state cache.new).whole) }
+    requires whole { IsTrue (C.state cache.old).whole }
+    requires last { C.tells → AllLast (C.state cache.old) }
+    ensures whole { OnOk result (IsTrue (C.state cache.new).whole) }
+    ensures last { C.tells → OnOk result (AllLast (C.state cache.new)) }
 {
     let key = key_of(alloc, name, number)?;
     match cache.find(alloc, key.as_bytes(), outs) {
@@ -85,7 +91,8 @@ fn is_found<C: Cache>(
 
 // How many of so many results are found as they were put.
 fn found<C: Cache>(alloc: Global, cache: &mut C, name: &str, count: u64) -> Result<u64>
-    requires { IsTrue (C.state cache.old).whole }
+    requires whole { IsTrue (C.state cache.old).whole }
+    requires last { C.tells → AllLast (C.state cache.old) }
 {
     let outs = no_outputs(alloc)?;
     let mut found: u64 = 0;
@@ -105,7 +112,8 @@ fn counted<C: Cache>(
     name: &str,
     count: u64,
 ) -> Result<u64>
-    requires { IsTrue (C.state cache.old).whole }
+    requires whole { IsTrue (C.state cache.old).whole }
+    requires last { C.tells → AllLast (C.state cache.old) }
 {
     if adds {
         add(alloc, cache, name, count)?;

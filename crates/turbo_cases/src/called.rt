@@ -3,6 +3,7 @@ ghost use Rattle.std.specs.Prelude.{◌≡◌, false};
 ghost use Rattle.spawn_dev.specs.Spawn.{IsIdle};
 
 use crate::scene::read_text;
+use crate::world::EarlyWorld;
 use anyhow::{Context, Result};
 use case_files::Vast;
 use rel_path::{Bytes, Files, Pairs, Text, Texts};
@@ -18,7 +19,7 @@ use turbo_app::{Answer, turbo};
 pub struct Given {
     pub words: Texts,
     pub environment: Pairs,
-    pub world: MemWorld,
+    pub world: EarlyWorld,
     pub output: MemSink,
 }
 
@@ -127,10 +128,10 @@ fn seen_of(
     Ok(Seen {
         answer: name_of(answer),
         status: answer.status(),
-        starts: starts_of(alloc, &given.world)?,
+        starts: starts_of(alloc, &given.world.inner)?,
         is_idle: given.world.is_idle(),
         page: read_text(alloc, given.output.written())?,
-        files: given.world.files().copy()?,
+        files: given.world.inner.files().copy()?,
         store,
         spare: others.spare,
         second: others.second,

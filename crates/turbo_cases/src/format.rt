@@ -107,6 +107,9 @@ pub struct Step {
     /// Which of the running commands ends first, wait by wait.
     #[serde(default)]
     pub ends: Vec<u32>,
+    /// Whether a command has ended by the time of each wait.
+    #[serde(default)]
+    pub early: bool,
     /// What other runs put into the shared file before its turn of each number: all results of
     /// that store.
     #[serde(default)]

@@ -16,6 +16,7 @@ mod scene;
 mod steps;
 mod tally;
 mod turns;
+mod world;
 
 use anyhow::Result;
 use cases::run_group;

@@ -6,6 +6,7 @@ use crate::format::{Case, Group, Step};
 use crate::many::push_many;
 use crate::scene::{Scene, store_of};
 use crate::turns::turns_of;
+use crate::world::EarlyWorld;
 use anyhow::{Context, Result};
 use case_files::Vast;
 use rel_path::{Bytes, Pairs, Text, Texts};
@@ -90,7 +91,10 @@ fn given_to(
     Ok(Given {
         words: words_of(alloc, step.words.as_str())?,
         environment: environment_of(alloc, step.environment.as_slice())?,
-        world: MemWorld::new(alloc, scene.files.copy()?, book, ends, world_fails),
+        world: EarlyWorld {
+            inner: MemWorld::new(alloc, scene.files.copy()?, book, ends, world_fails),
+            early: step.early,
+        },
         output: MemSink::new(alloc, output_fails),
     })
 }
