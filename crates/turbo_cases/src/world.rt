@@ -3,6 +3,7 @@ ghost use Rattle.std.specs.Prelude.{List};
 ghost use Rattle.spawn_dev.specs.Books.{effect_of};
 ghost use Rattle.spawn_dev.specs.BookLaws.{behaves};
 ghost use Rattle.spawn_dev.specs.Spawn.{Runs};
+ghost use Rattle.spawn_dev.specs.WorldLaws.{held_is_owned};
 ghost use Rattle.spawn_dev.specs.declared.book.Rule.{Rule};
 
 use rel_path::RelPath;
@@ -68,7 +69,9 @@ impl Spawner for EarlyWorld {
 
     ghost runs_by_rest = { λ a b e. e };
 
-    ghost held_by_running = { λ a. ⟦<MemWorld as Spawner>⟧.held_by_running a.inner };
+    ghost held_by_running = { λ a path held. held_is_owned a.inner.book
+        a.inner.progress.running.items a.inner.progress.steps.items a.inner.faults
+        a.inner.progress.distinct path held };
 
     ghost well_behaved = { behaves };
 }
