@@ -27,11 +27,14 @@ impl<'a> Part<'a> {
         requires well { IsWell self }
         requires inside { n ≤ (span_of self).len }
         ensures well { IsWell result.0 × IsWell result.1 }
-        ensures lens { ((span_of result.0).len ≡ n) × ((span_of result.1).len ≡ (span_of self.entry).len - n) }
-        ensures same { (is_known result.0 ≡ is_known self.entry) × (is_known result.1 ≡ is_known self.entry) }
+        ensures lens { ((span_of result.0).len ≡ n)
+            × ((span_of result.1).len ≡ (span_of self.entry).len - n) }
+        ensures same { (is_known result.0 ≡ is_known self.entry)
+            × (is_known result.1 ≡ is_known self.entry) }
         ensures both { (low : ℕ) (text : List ℕ) → length text < 2 ^ 64 → IsOf low text self.entry
             → IsOf low text result.0 × IsOf low text result.1
-            × (at_span text (span_of self.entry) ≡ at_span text (span_of result.0) ++ at_span text (span_of result.1)) }
+            × (at_span text (span_of self.entry)
+            ≡ at_span text (span_of result.0) ++ at_span text (span_of result.1)) }
     {
         let span = self.span();
         let front = Span {

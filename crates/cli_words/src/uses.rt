@@ -43,7 +43,8 @@ pub(crate) fn is_used(place: u8, items: &[Placed]) -> bool
 }
 
 fn push_some(alloc: Global, texts: &mut Vec<Text>, text: Option<&str>) -> Result<(), WordsErr>
-    ensures pushed { OnOk result (texts.new.items ≡ texts.old.items ++ option_to_list (seen text.entry)) }
+    ensures pushed { OnOk result
+        (texts.new.items ≡ texts.old.items ++ option_to_list (seen text.entry)) }
     ensures memory { IsOkUnless result OutOfMemory }
 {
     if let Some(text) = text {

@@ -12,7 +12,8 @@ use std::alloc::Global;
 use std::collections::BTreeSet;
 
 fn add_all(set: &mut BTreeSet<usize>, places: &[u32]) -> Result<(), ListErr>
-    ensures added { OnOk result ((j : ℕ) → contains nat_cmp set.new j ≡ (has places.now j || contains nat_cmp set.old j)) }
+    ensures added { OnOk result
+        ((j : ℕ) → contains nat_cmp set.new j ≡ (has places.now j || contains nat_cmp set.old j)) }
     ensures memory { OnlyMemory result }
 {
     for place in places {
@@ -23,7 +24,8 @@ fn add_all(set: &mut BTreeSet<usize>, places: &[u32]) -> Result<(), ListErr>
 
 // The last place of the set below this one.
 fn last_below(set: &BTreeSet<usize>, place: usize) -> Option<usize>
-    ensures { MatchOption result (HasNoneBelow (contains nat_cmp set.now) place) (IsLastBelow (contains nat_cmp set.now) place) }
+    ensures { MatchOption result (HasNoneBelow (contains nat_cmp set.now) place)
+        (IsLastBelow (contains nat_cmp set.now) place) }
 {
     set.range(..place).next_back().copied()
 }

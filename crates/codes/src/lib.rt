@@ -38,14 +38,16 @@ pub fn codes_law()
     ensures word { Reads word IsWord read_word }
     ensures str { Reads str IsShort read_str }
     ensures list { Reads (list str) (IsList IsShort) (read_list read_str) }
-    ensures nested { Reads (list (list str)) (IsList (IsList IsShort)) (read_list (read_list read_str)) }
+    ensures nested { Reads (list (list str)) (IsList (IsList IsShort))
+        (read_list (read_list read_str)) }
     ensures words_differ { Separates word IsWord }
     ensures strs_differ { Separates str IsShort }
     ensures lists_differ { Separates (list str) (IsList IsShort) }
     ensures nested_differ { Separates (list (list str)) (IsList (IsList IsShort)) }
     ensures long_word { Reads long_word IsLongWord read_long_word }
     ensures long_str { Reads long_str IsLong read_long_str }
-    ensures long_list { Reads (long_list long_str) (IsLongList IsLong) (read_long_list read_long_str) }
+    ensures long_list { Reads (long_list long_str) (IsLongList IsLong)
+        (read_long_list read_long_str) }
     ensures long_words_differ { Separates long_word IsLongWord }
     ensures long_strs_differ { Separates long_str IsLong }
     ensures long_lists_differ { Separates (long_list long_str) (IsLongList IsLong) }
@@ -159,7 +161,8 @@ pub fn put_long_str(to: &mut Vec<u8>, bytes: &[u8]) -> Result<(), AllocError>
     ensures kept { OnErr result (to.new.items ≡ to.old.items) }
     ensures len { OnOk result (vec_len to.new ≡ vec_len to.old + (LONG_BYTES + length bytes.now)) }
     ensures capacity { vec_capacity to.old ≤ vec_capacity to.new }
-    ensures succeeds { vec_len to.old + (LONG_BYTES + length bytes.now) ≤ vec_capacity to.old → IsOk result }
+    ensures succeeds { vec_len to.old + (LONG_BYTES + length bytes.now) ≤ vec_capacity to.old
+        → IsOk result }
 {
     // A sum past the end of a `usize` is refused as any room that there is not.
     to.reserve(bytes.len().saturating_add(LONG_BYTES))?;

@@ -71,7 +71,9 @@ fn is_wanted(reach: Reach, task: &EnvList, global: &EnvList, name: &Text) -> boo
 
 /// Adds the pair where its name has no value yet.
 fn add_first(values: &mut Values, pair: &(Text, Text)) -> Result<(), EnvErr>
-    ensures { OnOk result ((name : List ℕ) → get name_cmp values.new name ≡ option_or (get name_cmp values.old name) (first_value (pair.now ∷ []) name)) }
+    ensures { OnOk result ((name : List ℕ)
+        → get name_cmp values.new name
+        ≡ option_or (get name_cmp values.old name) (first_value (pair.now ∷ []) name)) }
 {
     let known = values.contains_key(&pair.0);
     if !known {
@@ -88,7 +90,8 @@ fn first_values(
     global: &EnvList,
     env: &[(Text, Text)],
 ) -> Result<Values, EnvErr>
-    ensures { IfOk result (λ values. (name : List ℕ) → get name_cmp values name ≡ chosen (is_wanted reach task.now global.now) env.now name) }
+    ensures { IfOk result (λ values. (name : List ℕ)
+        → get name_cmp values name ≡ chosen (is_wanted reach task.now global.now) env.now name) }
 {
     let mut values = BTreeMap::new(alloc);
     for pair in env {
@@ -102,7 +105,8 @@ fn first_values(
 
 /// Takes the names of the pairs out.
 fn remove_names(values: &mut Values, pairs: &[(Text, Text)])
-    ensures { (name : List ℕ) → get name_cmp values.new name ≡ (if has pairs.now name then None else get name_cmp values.old name) }
+    ensures { (name : List ℕ) → get name_cmp values.new name
+        ≡ (if has pairs.now name then None else get name_cmp values.old name) }
 {
     for pair in pairs {
         values.remove(&pair.0);

@@ -42,7 +42,9 @@ impl Patterns {
 
     /// Adds the pattern that the text writes.
     pub fn add(&mut self, alloc: Global, text: &str) -> Result<(), EnvErr>
-        ensures { OnOk result ((name : List ℕ) → index_takes self.new name ≡ (index_takes self.old name || spells_name (signs_of text.now) name)) }
+        ensures { OnOk result ((name : List ℕ)
+            → index_takes self.new name
+            ≡ (index_takes self.old name || spells_name (signs_of text.now) name)) }
     {
         if is_wild(text) {
             let pattern = Pattern::read(alloc, text.as_bytes())?;

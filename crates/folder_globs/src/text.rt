@@ -41,7 +41,8 @@ fn push_escaped(text: &mut String, name: &str) -> Result<(), AllocError>
 }
 
 fn push_character(text: &mut String, c: char) -> Result<(), AllocError>
-    ensures { OnOk result (string_bytes text.new ≡ string_bytes text.old ++ escaped (encode_utf8 c)) }
+    ensures { OnOk result (string_bytes text.new
+        ≡ string_bytes text.old ++ escaped (encode_utf8 c)) }
 {
     if is_special(c) {
         text.push('\\')?;

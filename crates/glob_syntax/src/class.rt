@@ -101,7 +101,11 @@ pub(crate) fn read_class<'a>(
     alloc: Global,
     marks: &'a [Mark],
 ) -> Result<Option<(Class, &'a [Mark])>, AllocError>
-    ensures class { IfOk result (λ r. MatchOption r (closes [] marks.now ≡ false) (λ read. (closes [] marks.now ≡ true) × ((at : ℕ) → tokens_of (Some (at, [])) marks.now ≡ class_token at read.0 ∷ tokens_of None read.1.now))) }
+    ensures class { IfOk result
+        (λ r. MatchOption r (closes [] marks.now ≡ false)
+        (λ read. (closes [] marks.now ≡ true)
+        × ((at : ℕ) → tokens_of (Some (at, [])) marks.now
+        ≡ class_token at read.0 ∷ tokens_of None read.1.now))) }
     ensures shorter { IfOk result (λ r. IfSome r (λ read. length read.1.now < length marks.now)) }
 {
     let mut body = Vec::new(alloc);

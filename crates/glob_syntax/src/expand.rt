@@ -20,7 +20,8 @@ fn push_each<'a>(
     parts: &[Tokens<'a>],
     longer: &mut Vec<Tokens<'a>>,
 ) -> Result<(), AllocError>
-    ensures { OnOk result (longer.new.items ≡ longer.old.items ++ map (λ part. line.now ++ part) parts.now) }
+    ensures { OnOk result (longer.new.items
+        ≡ longer.old.items ++ map (λ part. line.now ++ part) parts.now) }
 {
     for part in parts {
         longer.push(followed_by(line, part)?)?;

@@ -33,7 +33,8 @@ impl Mark {
 
 /// The character that the one before it quotes, and what follows.
 fn quoted_by(c: char, behind: &str) -> Option<(char, &str)>
-    ensures quoted { MatchOption result (NotQuoting c (chars behind.now)) (λ r. (c ≡ backslash) × (chars behind.now ≡ r.0 ∷ chars r.1.now)) }
+    ensures quoted { MatchOption result (NotQuoting c (chars behind.now))
+        (λ r. (c ≡ backslash) × (chars behind.now ≡ r.0 ∷ chars r.1.now)) }
     ensures text { IfSome result (λ r. IsUtf8 r.1.now) }
 {
     if c == '\\' {

@@ -153,7 +153,8 @@ fn part_of(alloc: Global, component: &[&Token]) -> Result<Option<Part>, AllocErr
 
 /// Adds the part that the component writes, if it writes one.
 fn push_part(alloc: Global, component: &Tokens, parts: &mut Vec<Part>) -> Result<(), AllocError>
-    ensures { OnOk result (parts.new.items ≡ parts.old.items ++ option_to_list (part_of component.now)) }
+    ensures { OnOk result (parts.new.items
+        ≡ parts.old.items ++ option_to_list (part_of component.now)) }
 {
     if let Some(part) = part_of(alloc, component.as_slice())? {
         parts.push(part)?;

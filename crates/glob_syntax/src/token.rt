@@ -92,7 +92,11 @@ fn class_at<'a>(
     none_ends: bool,
 ) -> Result<Option<(Sign, &'a [Mark])>, AllocError>
     requires { IsTrue none_ends → has_end (mark.now ∷ behind.now) ≡ false }
-    ensures tokens { IfOk result (λ r. MatchOption r (tokens_of None (mark.now ∷ behind.now) ≡ token_of mark.now ∷ tokens_of None behind.now) (λ read. tokens_of None (mark.now ∷ behind.now) ≡ token_with mark.now.at read.0 ∷ tokens_of None read.1.now)) }
+    ensures tokens { IfOk result
+        (λ r. MatchOption r (tokens_of None (mark.now ∷ behind.now)
+        ≡ token_of mark.now ∷ tokens_of None behind.now)
+        (λ read. tokens_of None (mark.now ∷ behind.now)
+        ≡ token_with mark.now.at read.0 ∷ tokens_of None read.1.now)) }
     ensures shorter { IfOk result (λ r. IfSome r (λ read. length read.1.now < length behind.now)) }
 {
     if none_ends || !mark.is_plain('[') {

@@ -73,7 +73,8 @@ impl OutSet {
 
 /// What is left of the path below the folder.
 fn strip<'a>(folder: &[Text], path: &'a [Text]) -> Option<&'a [Text]>
-    ensures { MatchOption result (strip folder.now path.now ≡ None) (λ rest. strip folder.now path.now ≡ Some rest.now) }
+    ensures { MatchOption result (strip folder.now path.now ≡ None)
+        (λ rest. strip folder.now path.now ≡ Some rest.now) }
 {
     path.strip_prefix(folder)
 }

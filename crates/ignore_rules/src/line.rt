@@ -24,7 +24,8 @@ fn newline_at(bytes: &[u8]) -> Option<usize>
 
 /// The first line and what stands behind its newline, where there is one.
 pub(crate) fn split_line(bytes: &[u8]) -> Option<(&[u8], &[u8])>
-    ensures line { MatchOption result (slice_split is_newline bytes.now ≡ bytes.now ∷ []) (λ r. slice_split is_newline bytes.now ≡ r.0.now ∷ slice_split is_newline r.1.now) }
+    ensures line { MatchOption result (slice_split is_newline bytes.now ≡ bytes.now ∷ [])
+        (λ r. slice_split is_newline bytes.now ≡ r.0.now ∷ slice_split is_newline r.1.now) }
     ensures shorter { IfSome result (λ r. length r.1.now < length bytes.now) }
 {
     let end = newline_at(bytes)?;

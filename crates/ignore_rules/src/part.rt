@@ -64,7 +64,8 @@ fn push_component(
     atoms: Vec<Atom>,
     plain_follows: bool,
 ) -> Result<(), AllocError>
-    ensures { OnOk result (parts.new.items ≡ parts.old.items ++ parts_written (atoms.items, plain_follows)) }
+    ensures { OnOk result (parts.new.items
+        ≡ parts.old.items ++ parts_written (atoms.items, plain_follows)) }
 {
     if !is_double(&atoms) {
         parts.push(Part::Named(Name::new(atoms)))?;

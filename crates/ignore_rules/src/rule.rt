@@ -54,7 +54,8 @@ fn without_first_slash(marks: &[Mark]) -> &[Mark]
 /// Whether the pattern takes folders alone, and what is left of it without a `/` at its end; none where a `\` at its
 /// end quotes nothing.
 fn cut_end(marks: &[Mark]) -> Option<(bool, &[Mark])>
-    ensures { MatchOption result (cut_end marks.now ≡ None) (λ r. cut_end marks.now ≡ Some (r.0, r.1.now)) }
+    ensures { MatchOption result (cut_end marks.now ≡ None)
+        (λ r. cut_end marks.now ≡ Some (r.0, r.1.now)) }
 {
     let Some((last, front)) = marks.split_last() else {
         return Some((false, marks));

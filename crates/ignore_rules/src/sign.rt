@@ -43,7 +43,8 @@ fn sign_of(mark: &Mark) -> Sign
 
 /// The signs of a pattern, or none where a class does not end.
 pub(crate) fn read_signs(alloc: Global, marks: &[Mark]) -> Result<Option<Vec<Sign>>, AllocError>
-    ensures { IfOk result (λ r. MatchOption r (signs_from None marks.now ≡ None) (λ signs. signs_from None marks.now ≡ Some signs.items)) }
+    ensures { IfOk result (λ r. MatchOption r (signs_from None marks.now ≡ None)
+        (λ signs. signs_from None marks.now ≡ Some signs.items)) }
 {
     let mut signs = Vec::new(alloc);
     let mut body = Vec::new(alloc);

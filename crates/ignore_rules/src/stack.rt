@@ -47,7 +47,9 @@ fn joined(before: Vec<Rule>, more: Vec<Rule>) -> Result<Vec<Rule>, IgnoreErr>
 
 /// Adds the file behind those of its folder.
 fn add(files: &mut Files, file: Ignore) -> Result<(), IgnoreErr>
-    ensures { OnOk result ((folder : Path) → entries_at files.new folder ≡ entries_at files.old folder ++ (if path_eq folder file.0 then file.1 else [])) }
+    ensures { OnOk result ((folder : Path)
+        → entries_at files.new folder
+        ≡ entries_at files.old folder ++ (if path_eq folder file.0 then file.1 else [])) }
 {
     let (folder, rules) = file.into_parts();
     let all = match files.remove(folder.as_slice()) {
@@ -95,7 +97,8 @@ fn says(rules: &[Rule], is_folder: bool, below: &[Text]) -> Option<bool>
 impl Stack {
     /// The files, in any order. The rules of files of one folder stand one after another, as the files do.
     pub fn new(alloc: Global, files: Vec<Ignore>) -> Result<Stack, IgnoreErr>
-        ensures { IfOk result (λ stack. (folder : Path) → rules_in stack folder ≡ rules_at files.items folder) }
+        ensures { IfOk result (λ stack. (folder : Path)
+            → rules_in stack folder ≡ rules_at files.items folder) }
     {
         let mut all = BTreeMap::new(alloc);
         for file in files {

@@ -33,7 +33,8 @@ pub fn pairs_of(alloc: Global, pointer: &str, value: &Value) -> Result<Pairs, Js
 
 // The names of the members that are no texts.
 fn other_members(alloc: Global, members: &Map<String, Value>) -> Result<Texts, AllocError>
-    ensures names { IfOk result (λ names. names ≡ other_members (members_view members.now.entries)) }
+    ensures names { IfOk result
+        (λ names. names ≡ other_members (members_view members.now.entries)) }
 {
     let mut names = Texts::new(alloc);
     for (name, value) in members.iter() {

@@ -131,7 +131,8 @@ fn add(
     part: Part,
 ) -> Result<Option<usize>, JsonErr>
     requires { IsWithin waiting text.old.items }
-    ensures added { IfOk result (λ now. Adds (byte, part) waiting text.old.items now text.new.items) }
+    ensures added { IfOk result
+        (λ now. Adds (byte, part) waiting text.old.items now text.new.items) }
     ensures memory { IsOkUnless result JsonErr.OutOfMemory }
 {
     if is_between(byte, part) {

@@ -81,7 +81,8 @@ impl View {
     /// The flag at the pointer. Memory is taken for `WrongKind` alone.
     #[tactic(auto, unfolding(crate::specs::Look::flag_in))]
     pub fn flag_at(&self, alloc: Global, pointer: &str) -> Result<Option<bool>, JsonErr>
-        ensures answer { Answers (flag_in pointer.now (data_of self.now)) pointer.now Shape.Flag result }
+        ensures answer { Answers (flag_in pointer.now (data_of self.now)) pointer.now Shape.Flag
+            result }
         ensures memory { result ≡ Err JsonErr.OutOfMemory
             → flag_in pointer.now (data_of self.now) ≡ Else }
     {
@@ -97,7 +98,8 @@ impl View {
     /// The whole number at the pointer. Memory is taken for `WrongKind` alone.
     #[tactic(auto, unfolding(crate::specs::Look::whole_in))]
     pub fn whole_at(&self, alloc: Global, pointer: &str) -> Result<Option<u64>, JsonErr>
-        ensures answer { Answers (whole_in pointer.now (data_of self.now)) pointer.now Shape.Whole result }
+        ensures answer { Answers (whole_in pointer.now (data_of self.now)) pointer.now Shape.Whole
+            result }
         ensures memory { result ≡ Err JsonErr.OutOfMemory
             → whole_in pointer.now (data_of self.now) ≡ Else }
     {
@@ -113,7 +115,8 @@ impl View {
     /// The names of the members of the object at the pointer, ascending by their bytes, each once.
     #[tactic(auto, unfolding(crate::specs::Look::keys_in))]
     pub fn keys_at(&self, alloc: Global, pointer: &str) -> Result<Option<Texts>, JsonErr>
-        ensures answer { Answers (keys_in pointer.now (data_of self.now)) pointer.now Shape.Object result }
+        ensures answer { Answers (keys_in pointer.now (data_of self.now)) pointer.now Shape.Object
+            result }
         ensures ascending { IfOk result (λ o. IfSome o (IsStrictlySortedBy (slice_cmp nat_cmp))) }
         ensures exact { IfOk result (λ o. IfSome o (AreNamesAt (data_of self.now) pointer.now)) }
     {
@@ -143,7 +146,8 @@ impl View {
     #[tactic(auto, unfolding(crate::specs::Look::value_in))]
     pub fn value_at(&self, pointer: &str) -> Result<Option<&Value>, JsonErr>
         ensures { MatchResult result
-            (λ found. option_map (λ v. view v.now) found ≡ value_in pointer.now (data_of self.now)) (λ e. ⊥) }
+            (λ found. option_map (λ v. view v.now) found ≡ value_in pointer.now (data_of self.now))
+            (λ e. ⊥) }
     {
         Ok(self.value.pointer(pointer))
     }

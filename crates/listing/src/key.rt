@@ -16,7 +16,8 @@ use std::alloc::Global;
 /// parts alone, whatever follows them.
 pub fn key_text_law()
     ensures listings_differ { spec.KeyTextsDiffer }
-    ensures files_differ { Separates (list spec.file_code) (IsList (AreBoth spec.PathFits IsShort)) }
+    ensures files_differ { Separates (list spec.file_code)
+        (IsList (AreBoth spec.PathFits IsShort)) }
     ensures parts_differ { Separates (list spec.part_code) (IsList spec.IsPart) }
 {}
 

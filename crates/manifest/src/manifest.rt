@@ -103,7 +103,8 @@ fn is_package_name(name: &str) -> bool
 }
 
 fn check_name(name: &Option<Text>) -> Result<(), ManifestErr>
-    ensures { MatchResult result (λ _. name_fault name.now ≡ None) (MayFault (name_fault name.now)) }
+    ensures { MatchResult result (λ _. name_fault name.now ≡ None)
+        (MayFault (name_fault name.now)) }
 {
     if let Some(name) = name {
         if is_package_name(name.as_str()) {
@@ -114,7 +115,8 @@ fn check_name(name: &Option<Text>) -> Result<(), ManifestErr>
 }
 
 fn check_manager(manager: Option<Text>) -> Result<(), ManifestErr>
-    ensures { MatchResult result (λ _. manager_fault manager ≡ None) (MayFault (manager_fault manager)) }
+    ensures { MatchResult result (λ _. manager_fault manager ≡ None)
+        (MayFault (manager_fault manager)) }
 {
     match manager {
         Some(text) => {
@@ -129,7 +131,8 @@ fn check_manager(manager: Option<Text>) -> Result<(), ManifestErr>
 
 // What is tried of texts: the root's package manager, a package's name.
 fn check_given(root: bool, name: &Option<Text>, manager: Option<Text>) -> Result<(), ManifestErr>
-    ensures { MatchResult result (λ _. given_fault root name.now manager ≡ None) (MayFault (given_fault root name.now manager)) }
+    ensures { MatchResult result (λ _. given_fault root name.now manager ≡ None)
+        (MayFault (given_fault root name.now manager)) }
 {
     if root {
         check_manager(manager)

@@ -70,7 +70,8 @@ pub(crate) fn wrong(alloc: Global, pointer: &str, wanted: Shape) -> ManifestErr
 
 // The array `packages` of an object `workspaces`.
 fn packages_at(alloc: Global, view: &View) -> Result<Texts, ManifestErr>
-    ensures { Finds (packages_of (texts_in (codes "/workspaces/packages") (data_of view.now))) result }
+    ensures { Finds (packages_of (texts_in (codes "/workspaces/packages") (data_of view.now)))
+        result }
 {
     match view.texts_at(alloc, "/workspaces/packages") {
         Ok(Some(texts)) => Ok(texts),

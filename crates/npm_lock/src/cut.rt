@@ -57,7 +57,8 @@ fn leads_to(folders: &[Text], value: &Value) -> bool
 fn keeps(folders: &[Text], locations: &[Text], location: &str, value: &Value) -> bool
     requires folders { IsSorted name_cmp folders.now }
     requires locations { IsSorted name_cmp locations.now }
-    ensures { result ≡ keeps (is_in folders.now) (is_in locations.now) location.now (view value.now) }
+    ensures { result ≡ keeps (is_in folders.now) (is_in locations.now) location.now
+        (view value.now) }
 {
     location.is_empty()
         || contains(folders, location)
@@ -73,7 +74,9 @@ fn cut_packages(
 ) -> Result<Map<String, Value>, AllocError>
     requires folders { IsSorted name_cmp folders.now }
     requires locations { IsSorted name_cmp locations.now }
-    ensures { IfOk result (λ cut. members_view cut.entries ≡ picked (cut_entry (is_in folders.now) (is_in locations.now)) (members_view packages.now.entries)) }
+    ensures { IfOk result (λ cut. members_view cut.entries
+        ≡ picked (cut_entry (is_in folders.now) (is_in locations.now))
+        (members_view packages.now.entries)) }
 {
     let mut cut = Map::new(alloc);
     for (location, value) in packages.iter() {
@@ -94,7 +97,8 @@ fn cut_member(
 ) -> Result<Value, AllocError>
     requires folders { IsSorted name_cmp folders.now }
     requires locations { IsSorted name_cmp locations.now }
-    ensures { IfOk result (λ now. Some (view now) ≡ cut_top (is_in folders.now) (is_in locations.now) name.now (view value.now)) }
+    ensures { IfOk result (λ now. Some (view now)
+        ≡ cut_top (is_in folders.now) (is_in locations.now) name.now (view value.now)) }
 {
     if name != "packages" {
         return value.clone();
@@ -113,7 +117,9 @@ fn cut_members(
 ) -> Result<Map<String, Value>, AllocError>
     requires folders { IsSorted name_cmp folders.now }
     requires locations { IsSorted name_cmp locations.now }
-    ensures { IfOk result (λ cut. members_view cut.entries ≡ picked (cut_top (is_in folders.now) (is_in locations.now)) (members_view top.now.entries)) }
+    ensures { IfOk result (λ cut. members_view cut.entries
+        ≡ picked (cut_top (is_in folders.now) (is_in locations.now))
+        (members_view top.now.entries)) }
 {
     let mut cut = Map::new(alloc);
     for (name, value) in top.iter() {

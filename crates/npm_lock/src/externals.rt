@@ -46,7 +46,8 @@ fn lack_at(
     least: Option<Lack>,
 ) -> Result<Option<Lack>, AllocError>
     requires { entry.now.link ≡ None → length found.now ≡ length entry.now.names }
-    ensures least { IfOk result (λ now. now ≡ least_after (lacks_of is_member entry.now found.now) least) }
+    ensures least { IfOk result
+        (λ now. now ≡ least_after (lacks_of is_member entry.now found.now) least) }
 {
     if is_member && entry.link.is_none() {
         entry_lack(entry, found.as_slice(), least)
@@ -114,7 +115,8 @@ fn with_link(mut folders: Vec<Text>, link: &Option<Text>) -> Result<Vec<Text>, A
 fn linked(alloc: Global, entries: &[Entry], set: &[bool]) -> Result<Vec<Text>, AllocError>
     requires ascend { Ascend entries.now }
     requires size { length set.now ≡ length entries.now }
-    ensures folders { IfOk result (λ folders. folders.items ≡ links_of (set_of entries.now set.now) entries.now) }
+    ensures folders { IfOk result
+        (λ folders. folders.items ≡ links_of (set_of entries.now set.now) entries.now) }
 {
     let mut folders = Vec::new(alloc);
     for (i, entry) in entries.iter().enumerate() {
@@ -130,7 +132,9 @@ pub(crate) fn links(alloc: Global, entries: &[Entry], set: &[bool]) -> Result<Te
     requires ascend { Ascend entries.now }
     requires size { length set.now ≡ length entries.now }
     ensures ascending { IfOk result (IsStrictlySortedBy name_cmp) }
-    ensures linked { IfOk result (λ folders. (folder : List ℕ) → Has folders folder ↔ IsLinked entries.now (set_of entries.now set.now) folder) }
+    ensures linked { IfOk result
+        (λ folders. (folder : List ℕ)
+        → Has folders folder ↔ IsLinked entries.now (set_of entries.now set.now) folder) }
 {
     let mut folders = linked(alloc, entries, set)?;
     folders.sort()?;

@@ -89,7 +89,8 @@ impl Lock {
     }
 
     fn finds(&self) -> &[Finds]
-        ensures { result.now ≡ map (found_by (entries_in (view self.now))) (entries_in (view self.now)) }
+        ensures { result.now ≡ map (found_by (entries_in (view self.now)))
+            (entries_in (view self.now)) }
     {
         self.finds.as_slice()
     }
@@ -115,7 +116,8 @@ impl Lock {
     /// The location of that number.
     pub fn location(&self, number: u32) -> &Text
         requires { number < length (entries_in (view self.now)) }
-        ensures { option_map (λ e. e.location) (slice_get (entries_in (view self.now)) number) ≡ Some result.now }
+        ensures { option_map (λ e. e.location) (slice_get (entries_in (view self.now)) number)
+            ≡ Some result.now }
     {
         &self.entries()[number as usize].location
     }
@@ -123,7 +125,8 @@ impl Lock {
     /// The folder that the location of that number leads to, if it is a link.
     pub fn link_of(&self, number: u32) -> Option<&Text>
         requires { number < length (entries_in (view self.now)) }
-        ensures { option_map (λ e. e.link) (slice_get (entries_in (view self.now)) number) ≡ Some (option_map (λ t. t.now) result) }
+        ensures { option_map (λ e. e.link) (slice_get (entries_in (view self.now)) number)
+            ≡ Some (option_map (λ t. t.now) result) }
     {
         self.entries()[number as usize].link.as_ref()
     }

@@ -70,7 +70,8 @@ fn is_modules(folder: &[u8]) -> bool
 fn found_above(entries: &[Entry], from: &[u8], name: &[u8]) -> Option<u32>
     requires ascend { Ascend entries.now }
     requires few { length entries.now < 2 ^ 32 }
-    ensures { result ≡ first_number entries.now (map (place_in name.now) (above_without_modules from.now (length from.now))) }
+    ensures { result ≡ first_number entries.now
+        (map (place_in name.now) (above_without_modules from.now (length from.now))) }
 {
     let mut end = from.len();
     while end > 0 {

@@ -57,7 +57,8 @@ impl Work {
 
     fn next(&mut self) -> Option<u32>
         ensures set { self.new.0 ≡ self.old.0 }
-        ensures todo { MatchOption result (self.old.1 ≡ []) (λ number. self.old.1 ≡ self.new.1 ++ number ∷ []) }
+        ensures todo { MatchOption result (self.old.1 ≡ [])
+            (λ number. self.old.1 ≡ self.new.1 ++ number ∷ []) }
     {
         self.todo.pop()
     }

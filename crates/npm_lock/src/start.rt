@@ -90,7 +90,10 @@ fn lack_after(
     found: Option<u32>,
     least: Option<Lack>,
 ) -> Result<Option<Lack>, AllocError>
-    ensures least { IfOk result (λ now. now ≡ least_after (with_lack (is_lacking soft found) (record { from = from.now; name = name.now }) []) least) }
+    ensures least { IfOk result
+        (λ now. now ≡ least_after
+        (with_lack (is_lacking soft found) (record { from = from.now; name = name.now }) [])
+        least) }
 {
     if soft || found.is_some() {
         return Ok(least);
@@ -128,7 +131,8 @@ pub(crate) fn entry_lack(
     least: Option<Lack>,
 ) -> Result<Option<Lack>, AllocError>
     requires { length found.now ≡ length entry.now.names }
-    ensures least { IfOk result (λ now. now ≡ least_after (lacks_by entry.now.location entry.now.names found.now) least) }
+    ensures least { IfOk result
+        (λ now. now ≡ least_after (lacks_by entry.now.location entry.now.names found.now) least) }
 {
     let mut least = least;
     for (i, name) in entry.names.as_slice().iter().enumerate() {

@@ -45,12 +45,20 @@ impl Model for Bound {
 
     ghost Value = { spec.Bound };
 
-    ghost view = { λ b. record { relation = b.relation; release = release_of b.version; tagged = b.tagged } };
+    ghost view = { λ b. record {
+      relation = b.relation;
+      release = release_of b.version;
+      tagged = b.tagged;
+    } };
 }
 
 impl Bound {
     pub(crate) fn new(relation: Relation, version: Version, tagged: bool) -> Bound
-        ensures { result ≡ record { relation = relation; release = release_of version; tagged = tagged } }
+        ensures { result ≡ record {
+          relation = relation;
+          release = release_of version;
+          tagged = tagged;
+        } }
     {
         Bound {
             relation,
@@ -66,7 +74,8 @@ impl Bound {
     }
 
     fn invites(&self, version: &Version) -> bool
-        ensures { result ≡ (self.now.tagged && same_numbers self.now.release (release_of version.now)) }
+        ensures { result ≡ (self.now.tagged
+            && same_numbers self.now.release (release_of version.now)) }
     {
         self.tagged
             && self.version.major == version.major

@@ -57,7 +57,10 @@ struct Reader {
 
 impl Reader {
     fn take(&mut self, alloc: Global, operator: Operator, word: &str) -> Result<(), RangeErr>
-        ensures ok { OnOk result ((self.new.waiting ≡ None) × (spec.both (Some self.old.bounds.items) (spec.comparator operator (spec.version word.now)) ≡ Some self.new.bounds.items)) }
+        ensures ok { OnOk result
+            ((self.new.waiting ≡ None)
+            × (spec.both (Some self.old.bounds.items)
+            (spec.comparator operator (spec.version word.now)) ≡ Some self.new.bounds.items)) }
         ensures err { IfErr result (MayRefuse (spec.version word.now)) }
     {
         let (numbers, pre) = read_version(alloc, word)?;

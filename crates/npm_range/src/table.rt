@@ -43,7 +43,11 @@ fn tagged(major: u64, minor: u64, patch: u64, pre: Prerelease) -> Version
 
 /// A bound that the text gives.
 fn written(relation: Relation, version: Version) -> Bound
-    ensures { result ≡ record { relation = relation; release = release_of version; tagged = not (length (release_of version).3 == 0) } }
+    ensures { result ≡ record {
+      relation = relation;
+      release = release_of version;
+      tagged = not (length (release_of version).3 == 0);
+    } }
 {
     let has_pre = !version.pre.is_empty();
     Bound::new(relation, version, has_pre)
@@ -72,14 +76,16 @@ fn add_below(set: &mut Vec<Bound>, high: Version) -> Result<(), RangeErr>
 }
 
 fn add_written(set: &mut Vec<Bound>, relation: Relation, version: Version) -> Result<(), RangeErr>
-    ensures value { OnOk result (set.new.items ≡ set.old.items ++ spec.written relation (release_of version)) }
+    ensures value { OnOk result
+        (set.new.items ≡ set.old.items ++ spec.written relation (release_of version)) }
     ensures memory { IsOkUnless result RangeErr.OutOfMemory }
 {
     add(set, written(relation, version))
 }
 
 fn add_between(set: &mut Vec<Bound>, low: Version, high: Version) -> Result<(), RangeErr>
-    ensures value { OnOk result (set.new.items ≡ set.old.items ++ spec.between (release_of low) (release_of high)) }
+    ensures value { OnOk result
+        (set.new.items ≡ set.old.items ++ spec.between (release_of low) (release_of high)) }
     ensures memory { IsOkUnless result RangeErr.OutOfMemory }
 {
     add_from(set, low)?;
@@ -87,7 +93,8 @@ fn add_between(set: &mut Vec<Bound>, low: Version, high: Version) -> Result<(), 
 }
 
 fn add_up_from(set: &mut Vec<Bound>, low: Version, high: Version) -> Result<(), RangeErr>
-    ensures value { OnOk result (set.new.items ≡ set.old.items ++ spec.up_from (release_of low) (release_of high)) }
+    ensures value { OnOk result
+        (set.new.items ≡ set.old.items ++ spec.up_from (release_of low) (release_of high)) }
     ensures memory { IsOkUnless result RangeErr.OutOfMemory }
 {
     add_written(set, Relation::From, low)?;
@@ -109,7 +116,8 @@ fn add_equal(
     pre: Prerelease,
 ) -> Result<(), RangeErr>
     requires { AreSmall numbers }
-    ensures value { OnOk result (set.new.items ≡ set.old.items ++ spec.equal numbers (pre_text pre)) }
+    ensures value { OnOk result
+        (set.new.items ≡ set.old.items ++ spec.equal numbers (pre_text pre)) }
     ensures memory { IsOkUnless result RangeErr.OutOfMemory }
 {
     match numbers {
@@ -128,7 +136,8 @@ fn add_tilde(
     pre: Prerelease,
 ) -> Result<(), RangeErr>
     requires { AreSmall numbers }
-    ensures value { OnOk result (set.new.items ≡ set.old.items ++ spec.tilde numbers (pre_text pre)) }
+    ensures value { OnOk result
+        (set.new.items ≡ set.old.items ++ spec.tilde numbers (pre_text pre)) }
     ensures memory { IsOkUnless result RangeErr.OutOfMemory }
 {
     match numbers {
@@ -179,7 +188,8 @@ fn add_caret(
     pre: Prerelease,
 ) -> Result<(), RangeErr>
     requires { AreSmall numbers }
-    ensures value { OnOk result (set.new.items ≡ set.old.items ++ spec.caret numbers (pre_text pre)) }
+    ensures value { OnOk result
+        (set.new.items ≡ set.old.items ++ spec.caret numbers (pre_text pre)) }
     ensures memory { IsOkUnless result RangeErr.OutOfMemory }
 {
     match numbers {
@@ -202,7 +212,8 @@ fn add_above(
     pre: Prerelease,
 ) -> Result<(), RangeErr>
     requires { AreSmall numbers }
-    ensures value { OnOk result (set.new.items ≡ set.old.items ++ spec.above numbers (pre_text pre)) }
+    ensures value { OnOk result
+        (set.new.items ≡ set.old.items ++ spec.above numbers (pre_text pre)) }
     ensures memory { IsOkUnless result RangeErr.OutOfMemory }
 {
     match numbers {
@@ -215,7 +226,8 @@ fn add_above(
 
 /// `>=1.2.3`.
 fn add_at_least(set: &mut Vec<Bound>, numbers: Numbers, pre: Prerelease) -> Result<(), RangeErr>
-    ensures value { OnOk result (set.new.items ≡ set.old.items ++ spec.at_least numbers (pre_text pre)) }
+    ensures value { OnOk result
+        (set.new.items ≡ set.old.items ++ spec.at_least numbers (pre_text pre)) }
     ensures memory { IsOkUnless result RangeErr.OutOfMemory }
 {
     match numbers {
@@ -234,7 +246,8 @@ fn add_under(
     pre: Prerelease,
 ) -> Result<(), RangeErr>
     requires { AreSmall numbers }
-    ensures value { OnOk result (set.new.items ≡ set.old.items ++ spec.under numbers (pre_text pre)) }
+    ensures value { OnOk result
+        (set.new.items ≡ set.old.items ++ spec.under numbers (pre_text pre)) }
     ensures memory { IsOkUnless result RangeErr.OutOfMemory }
 {
     match numbers {
@@ -253,7 +266,8 @@ fn add_at_most(
     pre: Prerelease,
 ) -> Result<(), RangeErr>
     requires { AreSmall numbers }
-    ensures value { OnOk result (set.new.items ≡ set.old.items ++ spec.at_most numbers (pre_text pre)) }
+    ensures value { OnOk result
+        (set.new.items ≡ set.old.items ++ spec.at_most numbers (pre_text pre)) }
     ensures memory { IsOkUnless result RangeErr.OutOfMemory }
 {
     match numbers {
@@ -274,7 +288,8 @@ pub(crate) fn add_bounds(
     pre: Prerelease,
 ) -> Result<(), RangeErr>
     requires { AreSmall numbers }
-    ensures value { OnOk result (set.new.items ≡ set.old.items ++ spec.bounds operator numbers (pre_text pre)) }
+    ensures value { OnOk result
+        (set.new.items ≡ set.old.items ++ spec.bounds operator numbers (pre_text pre)) }
     ensures memory { IsOkUnless result RangeErr.OutOfMemory }
 {
     match operator {

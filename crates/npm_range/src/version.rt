@@ -61,7 +61,9 @@ fn has_leading_zero(text: &str) -> bool
 
 /// The number that the digits write, which has no leading zero and is not too large.
 fn number(text: &str) -> Option<u64>
-    ensures { MatchOption result (spec.is_number text.now ≡ false) (λ n. (spec.is_number text.now ≡ true) × (n ≡ digits_value 10 text.now) × (n ≤ spec.largest)) }
+    ensures { MatchOption result (spec.is_number text.now ≡ false)
+        (λ n. (spec.is_number text.now ≡ true) × (n ≡ digits_value 10 text.now)
+        × (n ≤ spec.largest)) }
 {
     if !are_digits(text) || has_leading_zero(text) {
         return None;
@@ -86,7 +88,8 @@ fn part(text: &str) -> Option<Option<u64>>
 
 /// The numbers up to the first part that is open.
 fn filled(major: Option<u64>, minor: Option<u64>, patch: Option<u64>) -> Numbers
-    requires small { IfSome major (λ n. n ≤ spec.largest) × IfSome minor (λ n. n ≤ spec.largest) × IfSome patch (λ n. n ≤ spec.largest) }
+    requires small { IfSome major (λ n. n ≤ spec.largest) × IfSome minor (λ n. n ≤ spec.largest)
+        × IfSome patch (λ n. n ≤ spec.largest) }
     ensures value { result ≡ spec.filled major minor patch }
     ensures small { spec.AreSmall result }
 {
@@ -126,7 +129,8 @@ fn part_or_any(text: Option<&str>) -> Option<Option<u64>>
 /// The numbers of one to three parts between dots, and whether there are three.
 #[tactic(auto, unfolding(crate::specs::Grammar::numbers))]
 fn numbers(core: &str) -> Option<(Numbers, bool)>
-    ensures value { MatchOption result (spec.numbers core.now ≡ None) (λ r. (spec.numbers core.now ≡ Some r.0) × (r.1 ≡ spec.is_three core.now)) }
+    ensures value { MatchOption result (spec.numbers core.now ≡ None)
+        (λ r. (spec.numbers core.now ≡ Some r.0) × (r.1 ≡ spec.is_three core.now)) }
     ensures small { IfSome result (λ r. spec.AreSmall r.0) }
 {
     let (major, rest) = cut(core, DOT);
@@ -138,7 +142,8 @@ fn numbers(core: &str) -> Option<(Numbers, bool)>
 
 /// Want of memory, or no range, as the error of a reader says.
 fn refusal(error: Error) -> RangeErr
-    ensures { (result ≡ RangeErr.OutOfMemory) ⊎ ((result ≡ RangeErr.NotARange) × (error ≢ memory_error)) }
+    ensures { (result ≡ RangeErr.OutOfMemory)
+        ⊎ ((result ≡ RangeErr.NotARange) × (error ≢ memory_error)) }
 {
     if error == Error::from(AllocError) {
         RangeErr::OutOfMemory
@@ -150,7 +155,10 @@ fn refusal(error: Error) -> RangeErr
 /// Whether the text is build metadata that is not empty; where it is missing that is well.
 fn check_build(alloc: Global, allowed: bool, build: Option<&str>) -> Result<(), RangeErr>
     ensures ok { OnOk result (spec.is_tag is_build allowed (spec.seen build.entry) ≡ true) }
-    ensures err { IfErr result (λ e. (e ≡ RangeErr.OutOfMemory) ⊎ ((e ≡ RangeErr.NotARange) × (spec.is_tag is_build allowed (spec.seen build.entry) ≡ false))) }
+    ensures err { IfErr result
+        (λ e. (e ≡ RangeErr.OutOfMemory)
+        ⊎ ((e ≡ RangeErr.NotARange)
+        × (spec.is_tag is_build allowed (spec.seen build.entry) ≡ false))) }
 {
     let Some(text) = build else {
         return Ok(());
@@ -166,8 +174,12 @@ fn check_build(alloc: Global, allowed: bool, build: Option<&str>) -> Result<(), 
 
 /// The pre-release that the text is; none where it is missing.
 fn read_pre(alloc: Global, allowed: bool, pre: Option<&str>) -> Result<Prerelease, RangeErr>
-    ensures ok { IfOk result (λ p. (pre_text p ≡ spec.or_empty (spec.seen pre.entry)) × (spec.is_tag is_pre_release allowed (spec.seen pre.entry) ≡ true)) }
-    ensures err { IfErr result (λ e. (e ≡ RangeErr.OutOfMemory) ⊎ ((e ≡ RangeErr.NotARange) × (spec.is_tag is_pre_release allowed (spec.seen pre.entry) ≡ false))) }
+    ensures ok { IfOk result (λ p. (pre_text p ≡ spec.or_empty (spec.seen pre.entry))
+        × (spec.is_tag is_pre_release allowed (spec.seen pre.entry) ≡ true)) }
+    ensures err { IfErr result
+        (λ e. (e ≡ RangeErr.OutOfMemory)
+        ⊎ ((e ≡ RangeErr.NotARange)
+        × (spec.is_tag is_pre_release allowed (spec.seen pre.entry) ≡ false))) }
 {
     let Some(text) = pre else {
         return Ok(Prerelease::empty());

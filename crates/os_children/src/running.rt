@@ -112,7 +112,8 @@ where
 
 fn end_of<P: OpenProcess + Drop>(mut child: Child<P>, log: Vec<u8>) -> io::Result<ChildEnd>
     ensures log { IfNone child.stdout (IfOk result (λ end. end.log ≡ log.items)) }
-    ensures whole { IfOk result (λ end. IfSome child.stdout (λ pipe. IfSome (P.Stdout.remaining pipe)
+    ensures whole { IfOk result
+        (λ end. IfSome child.stdout (λ pipe. IfSome (P.Stdout.remaining pipe)
         (λ bytes. end.log ≡ log.items ++ bytes))) }
 {
     let log = match child.stdout.take() {

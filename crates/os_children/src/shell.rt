@@ -30,7 +30,8 @@ fn clear(shell: &mut process::Command)
 }
 
 fn set_var(shell: &mut process::Command, pair: &(Text, Text)) -> Result<(), AllocError>
-    ensures set { OnOk result ((name : List ℕ) → command_var shell.new name ≡ set_over (command_var shell.old name) pair.now name) }
+    ensures set { OnOk result ((name : List ℕ)
+        → command_var shell.new name ≡ set_over (command_var shell.old name) pair.now name) }
     ensures clears { OnOk result (clears_env shell.new ≡ clears_env shell.old) }
     ensures call { OnOk result (SameProgramAndArgs shell.old shell.new) }
 {
@@ -40,7 +41,8 @@ fn set_var(shell: &mut process::Command, pair: &(Text, Text)) -> Result<(), Allo
 
 // Of pairs of one name the first counts, so the last is set first.
 fn set_all(shell: &mut process::Command, pairs: &[(Text, Text)]) -> Result<(), AllocError>
-    ensures set { OnOk result ((name : List ℕ) → command_var shell.new name ≡ set_all_over (command_var shell.old name) pairs.now name) }
+    ensures set { OnOk result ((name : List ℕ)
+        → command_var shell.new name ≡ set_all_over (command_var shell.old name) pairs.now name) }
     ensures clears { OnOk result (clears_env shell.new ≡ clears_env shell.old) }
     ensures call { OnOk result (SameProgramAndArgs shell.old shell.new) }
 {
@@ -56,9 +58,11 @@ fn set_all(shell: &mut process::Command, pairs: &[(Text, Text)]) -> Result<(), A
 /// input, and behind them those that are passed on. Of pairs of one name the first counts.
 pub fn shell(alloc: Global, command: &Command) -> io::Result<process::Command>
     ensures program { IfOk result (λ shell. command_program shell ≡ codes "/bin/sh") }
-    ensures args { IfOk result (λ shell. command_args shell ≡ codes "-c" ∷ shell_text_of command.now ∷ []) }
+    ensures args { IfOk result
+        (λ shell. command_args shell ≡ codes "-c" ∷ shell_text_of command.now ∷ []) }
     ensures clears { IfOk result (λ shell. clears_env shell ≡ true) }
-    ensures vars { IfOk result (λ shell. (name : List ℕ) → command_var shell name ≡ var_of command.now name) }
+    ensures vars { IfOk result
+        (λ shell. (name : List ℕ) → command_var shell name ≡ var_of command.now name) }
     ensures memory { IfErr result (λ e. error_kind e ≡ ErrorKind.OutOfMemory) }
 {
     let text = shell_text(alloc, command).map_err(|_| out_of_memory())?;

@@ -51,7 +51,8 @@ fn kind_of(metadata: &Metadata) -> ErrorKind {
 // that a file that has not is read by the first call, and found at its end by the second.
 fn read_within<F: Read + Drop>(alloc: Global, file: F, room: usize, limit: u64) -> io::Result<Found>
     ensures short { IfOk result (IsWithin limit) }
-    ensures whole { IfOk result (λ found. IfSome (F.remaining file) (λ bytes. found ≡ within limit (Some bytes))) }
+    ensures whole { IfOk result
+        (λ found. IfSome (F.remaining file) (λ bytes. found ≡ within limit (Some bytes))) }
 {
     let mut bytes = vec![in alloc; 0u8; room]?;
     let mut file = file.take(limit.saturating_add(1));

@@ -152,7 +152,9 @@ fn note_line(alloc: Global, front: &str, note: &Note) -> Result<String, PageErr>
 
 // The lines behind the log.
 fn end_lines(alloc: Global, front: &str, status: u8, note: &Note) -> Result<String, PageErr>
-    ensures lines { IfOk result (λ lines. string_bytes lines ≡ failure_line front.now status ++ note_line front.now note.now) }
+    ensures lines { IfOk result
+        (λ lines. string_bytes lines
+        ≡ failure_line front.now status ++ note_line front.now note.now) }
     ensures memory { IsOkUnless result PageErr.OutOfMemory }
 {
     let mut lines = failure_line(alloc, front, status)?;
@@ -174,7 +176,8 @@ pub fn block(
     note: &Note,
     mode: LogMode,
 ) -> Result<Bytes, PageErr>
-    ensures text { IfOk result (λ bytes. bytes ≡ block_text task.now mark print.now log.now status note.now mode) }
+    ensures text { IfOk result
+        (λ bytes. bytes ≡ block_text task.now mark print.now log.now status note.now mode) }
     ensures memory { IsOkUnless result PageErr.OutOfMemory }
 {
     let front = front(alloc, task)?;

@@ -59,7 +59,9 @@ pub fn dry_block(
     script: Option<&Text>,
     deps: &TaskIds,
 ) -> Result<Bytes, PageErr>
-    ensures text { IfOk result (λ bytes. bytes ≡ dry_block_text task.now print.now held (option_map (λ text. text.now) script.entry) deps.now) }
+    ensures text { IfOk result
+        (λ bytes. bytes ≡ dry_block_text task.now print.now held
+        (option_map (λ text. text.now) script.entry) deps.now) }
     ensures memory { IsOkUnless result PageErr.OutOfMemory }
 {
     let task = task_name(alloc, task)?;

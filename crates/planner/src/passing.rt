@@ -44,7 +44,8 @@ pub(crate) fn all_given(
     requires { length parts.now ≡ length defs.now }
     ensures same { IfOk result (λ lists. length lists ≡ length defs.now) }
     ensures value { IfOk result (λ lists. (t : ℕ) (def : TaskDef) → slice_get defs.now t ≡ Some def
-        → IsChosen (is_given mode def.pass global.now (slice_index_or parts.now t blank).env) env.now
+        → IsChosen (is_given mode def.pass global.now (slice_index_or parts.now t blank).env)
+        env.now
         (slice_index_or lists t [])) }
 {
     let mut lists = PairLists::new(alloc);

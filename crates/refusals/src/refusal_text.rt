@@ -102,7 +102,8 @@ fn no_dependency(alloc: Global, task: &TaskId, text: &Text) -> Result<String, Al
 }
 
 fn cycle(alloc: Global, tasks: &TaskIds) -> Result<String, AllocError>
-    ensures text { IfOk result (λ text. string_bytes text ≡ refusal_text (Refusal.Cycle tasks.now)) }
+    ensures text { IfOk result
+        (λ text. string_bytes text ≡ refusal_text (Refusal.Cycle tasks.now)) }
 {
     let tasks = joined(alloc, " -> ", tasks.as_slice())?;
     behind(alloc, "cycle: ", tasks.as_str())

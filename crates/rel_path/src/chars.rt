@@ -4,7 +4,8 @@ ghost use Rattle.std.specs.Str.{chars};
 
 /// The first character and the text after it; nothing of an empty text.
 pub fn split_first_char(text: &str) -> Option<(char, &str)>
-    ensures first { MatchOption result (chars text.now ≡ []) (λ r. chars text.now ≡ r.0 ∷ chars r.1.now) }
+    ensures first { MatchOption result (chars text.now ≡ [])
+        (λ r. chars text.now ≡ r.0 ∷ chars r.1.now) }
     ensures text { IfSome result (λ r. IsUtf8 r.1.now) }
 {
     let mut rest = text.chars();

@@ -101,7 +101,8 @@ impl RelPath {
     /// The path that the text writes: its parts between slashes. `Empty` for an empty text, else the
     /// fault of the first part that is no component.
     pub fn read(alloc: Global, text: &str) -> Result<RelPath, PathErr>
-        ensures ok { IfOk result (λ path. (text_fault text.now ≡ None) × (path ≡ parts_of text.now)) }
+        ensures ok { IfOk result
+            (λ path. (text_fault text.now ≡ None) × (path ≡ parts_of text.now)) }
         ensures back { IfOk result (λ path. join_with_byte 47 path ≡ text.now) }
         ensures err { IfErr result (MayRefuse (text_fault text.now)) }
     {
@@ -122,7 +123,8 @@ impl RelPath {
     /// The components with a slash between each two. Every path but the root reads back.
     pub fn text(&self, alloc: Global) -> Result<Text, AllocError>
         ensures value { IfOk result (λ text. text ≡ join_with_byte 47 self.now) }
-        ensures back { IfOk result (λ text. self.now ≢ [] → (text_fault text ≡ None) × (parts_of text ≡ self.now)) }
+        ensures back { IfOk result
+            (λ text. self.now ≢ [] → (text_fault text ≡ None) × (parts_of text ≡ self.now)) }
     {
         let mut inner = String::new(alloc);
         let path = self.components();
@@ -137,7 +139,8 @@ impl RelPath {
 
     /// The path with one more component: `Empty`, `DotPart` or `Slash` where the name is none.
     pub fn join(&self, alloc: Global, name: &str) -> Result<RelPath, PathErr>
-        ensures ok { IfOk result (λ path. (name_fault name.now ≡ None) × (path ≡ self.now ++ name.now ∷ [])) }
+        ensures ok { IfOk result
+            (λ path. (name_fault name.now ≡ None) × (path ≡ self.now ++ name.now ∷ [])) }
         ensures err { IfErr result (MayRefuse (name_fault name.now)) }
     {
         if let Some(fault) = name_fault(name) {

@@ -29,8 +29,11 @@ fn serve_one(t: usize, states: &[State], unmet: &mut [usize], ready: &mut PlaceS
     requires unmet { 1 ≤ count_at unmet.old t }
     requires states { length unmet.old ≡ length states.now }
     requires room { length states.now ≤ length ready.old }
-    ensures unmet { (u : ℕ) → count_at unmet.new u + (if u == t then 1 else 0) ≡ count_at unmet.old u }
-    ensures ready { (u : ℕ) → has ready.new u ≡ (has ready.old u || ((u == t) && (is_waiting (states_in states.now u) && (count_at unmet.new u == 0)))) }
+    ensures unmet { (u : ℕ) → count_at unmet.new u + (if u == t then 1 else 0)
+        ≡ count_at unmet.old u }
+    ensures ready { (u : ℕ) → has ready.new u
+        ≡ (has ready.old u || ((u == t)
+        && (is_waiting (states_in states.now u) && (count_at unmet.new u == 0)))) }
     ensures room { length ready.new ≡ length ready.old }
 {
     unmet[t] -= 1;
@@ -45,7 +48,9 @@ pub fn serve_each(dependents: &[u32], states: &[State], unmet: &mut [usize], rea
     requires states { length unmet.old ≡ length states.now }
     requires room { length states.now ≤ length ready.old }
     ensures unmet { (u : ℕ) → count_at unmet.new u + times u dependents.now ≡ count_at unmet.old u }
-    ensures ready { (u : ℕ) → has ready.new u ≡ (has ready.old u || (is_in u dependents.now && (is_waiting (states_in states.now u) && (count_at unmet.new u == 0)))) }
+    ensures ready { (u : ℕ) → has ready.new u
+        ≡ (has ready.old u || (is_in u dependents.now
+        && (is_waiting (states_in states.now u) && (count_at unmet.new u == 0)))) }
     ensures room { length ready.new ≡ length ready.old }
 {
     for t in dependents {
@@ -57,8 +62,10 @@ pub fn serve_each(dependents: &[u32], states: &[State], unmet: &mut [usize], rea
 fn leave_one(t: usize, states: &mut [State], pending: &mut PlaceSet)
     requires below { t < length states.old }
     requires room { length states.old ≤ length pending.old }
-    ensures states { (u : ℕ) → states_in states.new u ≡ (if u == t then State.Left else states_in states.old u) }
-    ensures pending { (u : ℕ) → has pending.new u ≡ (has pending.old u || ((u == t) && not (is_left (states_in states.old u)))) }
+    ensures states { (u : ℕ) → states_in states.new u
+        ≡ (if u == t then State.Left else states_in states.old u) }
+    ensures pending { (u : ℕ) → has pending.new u
+        ≡ (has pending.old u || ((u == t) && not (is_left (states_in states.old u)))) }
     ensures room { length pending.new ≡ length pending.old }
 {
     if !is_left_at(states, t) {
@@ -70,8 +77,11 @@ fn leave_one(t: usize, states: &mut [State], pending: &mut PlaceSet)
 fn leave_each(dependents: &[u32], states: &mut [State], pending: &mut PlaceSet)
     requires below { (u : ℕ) → is_in u dependents.now ≡ true → u < length states.old }
     requires room { length states.old ≤ length pending.old }
-    ensures states { (u : ℕ) → states_in states.new u ≡ (if is_in u dependents.now then State.Left else states_in states.old u) }
-    ensures pending { (u : ℕ) → has pending.new u ≡ (has pending.old u || (is_in u dependents.now && not (is_left (states_in states.old u)))) }
+    ensures states { (u : ℕ) → states_in states.new u
+        ≡ (if is_in u dependents.now then State.Left else states_in states.old u) }
+    ensures pending { (u : ℕ) → has pending.new u
+        ≡ (has pending.old u ||
+        (is_in u dependents.now && not (is_left (states_in states.old u)))) }
     ensures room { length pending.new ≡ length pending.old }
 {
     for t in dependents {
@@ -89,8 +99,10 @@ pub fn leave_above(dependents: &[Places], states: &mut [State], pending: &mut Pl
     requires empty { (u : ℕ) → has pending.old u ≡ false }
     ensures empty { (u : ℕ) → has pending.new u ≡ false }
     ensures room { length pending.new ≡ length pending.old }
-    ensures states { (g : Rules) → AreLower g → Mirrors g dependents.now → IsClosed g (states_in states.old)
-        → (u : ℕ) → states_in states.new u ≡ (if is_above g u from then State.Left else states_in states.old u) }
+    ensures states { (g : Rules) → AreLower g → Mirrors g dependents.now
+        → IsClosed g (states_in states.old)
+        → (u : ℕ) → states_in states.new u
+        ≡ (if is_above g u from then State.Left else states_in states.old u) }
 {
     leave_each(dependents[from].as_slice(), states, pending);
     while let Some(t) = pending.least() {

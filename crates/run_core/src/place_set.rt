@@ -52,7 +52,8 @@ fn mend_above(flags: &mut [bool], leaf: usize)
     requires even { length flags.old % 2 ≡ 0 }
     requires above { 1 ≤ leaf }
     requires below { leaf < length flags.old }
-    requires others { (i : ℕ) → 1 ≤ i → 2 * i < length flags.old → i ≢ leaf / 2 → IsRight flags.old i }
+    requires others { (i : ℕ) → 1 ≤ i → 2 * i < length flags.old → i ≢ leaf / 2
+        → IsRight flags.old i }
     ensures right { AreRight flags.new }
     ensures leaves { (i : ℕ) → length flags.old ≤ 2 * i → flag flags.new i ≡ flag flags.old i }
 {
@@ -70,7 +71,8 @@ fn write_leaf(flags: &mut [bool], leaf: usize, member: bool)
     requires below { leaf < length flags.old }
     requires right { AreRight flags.old }
     ensures right { AreRight flags.new }
-    ensures leaves { (i : ℕ) → length flags.old ≤ 2 * i → flag flags.new i ≡ (if i == leaf then member else flag flags.old i) }
+    ensures leaves { (i : ℕ) → length flags.old ≤ 2 * i
+        → flag flags.new i ≡ (if i == leaf then member else flag flags.old i) }
 {
     flags[leaf] = member;
     mend_above(flags, leaf);
@@ -107,7 +109,8 @@ impl PlaceSet {
     pub fn set(&mut self, place: usize, member: bool)
         requires { place < length self.old }
         ensures room { length self.new ≡ length self.old }
-        ensures member { (p : ℕ) → has self.new p ≡ (if p == place then member else has self.old p) }
+        ensures member { (p : ℕ) → has self.new p
+            ≡ (if p == place then member else has self.old p) }
     {
         write_leaf(&mut self.flags, self.leaves + place, member);
     }

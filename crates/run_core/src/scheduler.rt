@@ -96,7 +96,8 @@ impl Core {
         requires order { IsTopological deps.now }
         requires wide { 0 < width }
         ensures rules { IfOk result (λ core. rules core ≡ rules_in deps.now width mode) }
-        ensures commands { IfOk result (λ core. has_command core ≡ (λ t. slice_index_or runs.now t false)) }
+        ensures commands { IfOk result
+            (λ core. has_command core ≡ (λ t. slice_index_or runs.now t false)) }
         ensures states { IfOk result (λ core. states core ≡ (λ t. State.Waiting)) }
         ensures memory { OnlyMemory result }
     {
@@ -145,7 +146,8 @@ impl Core {
     }
 
     fn start_or_wait(&self) -> Next
-        ensures { result ≡ start_or_wait (rules self.now) (states self.now) (least (λ t. is_missed (states self.now t)) (rules self.now).size) }
+        ensures { result ≡ start_or_wait (rules self.now) (states self.now)
+            (least (λ t. is_missed (states self.now t)) (rules self.now).size) }
     {
         if self.running >= self.width as usize {
             return self.wait_or_finish();
@@ -209,7 +211,8 @@ impl Core {
     pub fn ended(&mut self, t: u32, status: u8)
         requires { states self.old t ≡ State.Running }
         ensures states { states self.new ≡ after_end (rules self.old) (states self.old) t status }
-        ensures runs { (u : ℕ) → runs (states self.new u) ≡ (if u == t then false else runs (states self.old u)) }
+        ensures runs { (u : ℕ) → runs (states self.new u)
+            ≡ (if u == t then false else runs (states self.old u)) }
         ensures kept { Keeps self.old self.new }
     {
         let t = t as usize;

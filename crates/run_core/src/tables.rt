@@ -56,7 +56,9 @@ pub fn lengths(alloc: Global, lists: &[Places]) -> Result<Vec<usize>, CoreErr>
 // A task is a dependent of each of its dependencies.
 fn add_dependent(lists: &mut [Places], deps: &[u32], task: u32) -> Result<(), CoreErr>
     requires { (d : ℕ) → is_in d deps.now ≡ true → d < length lists.old }
-    ensures added { OnOk result ((d u : ℕ) → times u (list_at lists.new d) ≡ times u (list_at lists.old d) + (if u == task then times d deps.now else 0)) }
+    ensures added { OnOk result
+        ((d u : ℕ) → times u (list_at lists.new d)
+        ≡ times u (list_at lists.old d) + (if u == task then times d deps.now else 0)) }
     ensures memory { OnlyMemory result }
 {
     for d in deps {
@@ -83,7 +85,8 @@ pub fn dependents_of(alloc: Global, deps: &[Places]) -> Result<Vec<Places>, Core
     requires few { length deps.now < 2 ^ 32 }
     requires lower { (t d : ℕ) → is_in d (list_at deps.now t) ≡ true → d < t }
     ensures count { IfOk result (λ lists. length lists.items ≡ length deps.now) }
-    ensures mirrors { IfOk result (λ lists. (v u : ℕ) → times u (list_at lists.items v) ≡ times v (list_at deps.now u)) }
+    ensures mirrors { IfOk result
+        (λ lists. (v u : ℕ) → times u (list_at lists.items v) ≡ times v (list_at deps.now u)) }
     ensures memory { OnlyMemory result }
 {
     let mut lists = empty_lists(alloc, deps.len())?;
@@ -97,7 +100,9 @@ pub fn dependents_of(alloc: Global, deps: &[Places]) -> Result<Vec<Places>, Core
 pub fn first_ready(alloc: Global, unmet: &[usize]) -> Result<PlaceSet, CoreErr>
     requires { length unmet.now < 2 ^ 32 }
     ensures room { IfOk result (λ set. length unmet.now ≤ length set) }
-    ensures ready { IfOk result (λ set. (t : ℕ) → has set t ≡ (nat_lt t (length unmet.now) && (count_at unmet.now t == 0))) }
+    ensures ready { IfOk result
+        (λ set. (t : ℕ) → has set t
+        ≡ (nat_lt t (length unmet.now) && (count_at unmet.now t == 0))) }
     ensures memory { OnlyMemory result }
 {
     let mut ready = PlaceSet::new(alloc, unmet.len())?;

@@ -91,7 +91,9 @@ impl Plan {
     // The tasks that failed, in the order of the plan.
     fn failed(&self, alloc: Global, reports: &Reports) -> Result<TaskIds, PlanErr>
         requires { IsValidPlan self.now }
-        ensures tasks { IfOk result (λ tasks. tasks ≡ failed_by self.now (report_in reports.now) (length self.now.listing.parts)) }
+        ensures tasks { IfOk result
+            (λ tasks. tasks ≡ failed_by self.now (report_in reports.now)
+            (length self.now.listing.parts)) }
         ensures memory { OnlyMemory result }
     {
         let mut tasks = TaskIds::new(alloc);

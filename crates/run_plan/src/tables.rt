@@ -87,7 +87,8 @@ impl Plan {
 
     /// The dependencies of each task.
     pub fn deps(&self, alloc: Global) -> Result<Vec<Places>, PlanErr>
-        ensures deps { IfOk result (λ deps. deps.items ≡ map (λ part. part.deps) self.now.listing.parts) }
+        ensures deps { IfOk result
+            (λ deps. deps.items ≡ map (λ part. part.deps) self.now.listing.parts) }
         ensures memory { OnlyMemory result }
     {
         let mut deps = Vec::with_capacity(alloc, self.size())?;
@@ -99,7 +100,8 @@ impl Plan {
 
     /// Which tasks run a command.
     pub fn scripts(&self, alloc: Global) -> Result<Vec<bool>, PlanErr>
-        ensures scripts { IfOk result (λ scripts. scripts.items ≡ map has_script self.now.listing.parts) }
+        ensures scripts { IfOk result
+            (λ scripts. scripts.items ≡ map has_script self.now.listing.parts) }
         ensures memory { OnlyMemory result }
     {
         let mut scripts = Vec::with_capacity(alloc, self.size())?;

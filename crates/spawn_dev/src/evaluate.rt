@@ -33,7 +33,9 @@ fn push_file(
     command: &Command,
     path: &RelPath,
 ) -> Result<(), DevErr>
-    ensures bytes { OnOk result (to.new.items ≡ to.old.items ++ unwrap_or ((seen_by command.now (file_at files.now)).files path.now) []) }
+    ensures bytes { OnOk result
+        (to.new.items ≡ to.old.items
+        ++ unwrap_or ((seen_by command.now (file_at files.now)).files path.now) []) }
     ensures memory { OnlyMemory result }
 {
     if !may_read(command, path) {
@@ -80,7 +82,9 @@ fn push_piece(
     command: &Command,
     piece: &Piece,
 ) -> Result<(), DevErr>
-    ensures bytes { OnOk result (to.new.items ≡ to.old.items ++ piece_bytes (seen_by command.now (file_at files.now)) piece.now) }
+    ensures bytes { OnOk result
+        (to.new.items ≡ to.old.items
+        ++ piece_bytes (seen_by command.now (file_at files.now)) piece.now) }
     ensures memory { OnlyMemory result }
 {
     match piece {
@@ -99,7 +103,8 @@ fn bytes_of(
     command: &Command,
     pieces: &[Piece],
 ) -> Result<Bytes, DevErr>
-    ensures bytes { IfOk result (λ bytes. bytes ≡ pieces_bytes (seen_by command.now (file_at files.now)) pieces.now) }
+    ensures bytes { IfOk result
+        (λ bytes. bytes ≡ pieces_bytes (seen_by command.now (file_at files.now)) pieces.now) }
     ensures memory { OnlyMemory result }
 {
     let mut bytes = Vec::new(alloc);
@@ -116,7 +121,8 @@ fn files_of(
     command: &Command,
     writes: &[(RelPath, Pieces)],
 ) -> Result<Files, DevErr>
-    ensures files { IfOk result (λ written. written ≡ with_writes (seen_by command.now (file_at files.now)) [] writes.now) }
+    ensures files { IfOk result
+        (λ written. written ≡ with_writes (seen_by command.now (file_at files.now)) [] writes.now) }
     ensures memory { OnlyMemory result }
 {
     let mut written = BTreeMap::new(alloc);
@@ -131,7 +137,8 @@ fn files_of(
 }
 
 fn is_for(rule: &Rule, command: &Command) -> bool
-    ensures { result ≡ (name_eq rule.now.package command.now.package && name_eq rule.now.task command.now.task) }
+    ensures { result ≡ (name_eq rule.now.package command.now.package
+        && name_eq rule.now.task command.now.task) }
 {
     rule.package == command.package && rule.task == command.task
 }
@@ -149,7 +156,8 @@ pub fn effect_of(
     files: &[(RelPath, Bytes)],
     command: &Command,
 ) -> Result<Effect, DevErr>
-    ensures effect { IfOk result (λ effect. effect ≡ effect_of rules.now (seen_by command.now (file_at files.now))) }
+    ensures effect { IfOk result
+        (λ effect. effect ≡ effect_of rules.now (seen_by command.now (file_at files.now))) }
     ensures memory { OnlyMemory result }
 {
     for rule in rules {

@@ -59,14 +59,26 @@ impl Progress {
     pub fn start(&mut self, command: Command, effect: Effect) -> Result<(), DevErr>
         requires fresh { runs_at self.old.running.items command.place ≡ None }
         requires owned { owns_all command.outs effect.files ≡ true }
-        requires apart { (path : Path) → takes command.outs path ≡ true → held_at self.old.running.items path ≡ false }
-        ensures runs { OnOk result (runs_at self.new.running.items ≡ put_at (runs_at self.old.running.items) command.place (Some command)) }
-        ensures will { OnOk result (will_at self.new.running.items ≡ put_at (will_at self.old.running.items) command.place effect) }
-        ensures held { (path : Path) → held_at self.new.running.items path ≡ true → takes command.outs path ≡ false → held_at self.old.running.items path ≡ true }
-        ensures count { OnOk result (length self.new.running.items ≡ length self.old.running.items + 1) }
-        ensures order { OnOk result (places_in self.new.running.items ≡ places_in self.old.running.items ++ command.place ∷ []) }
-        ensures steps { OnOk result (self.new.steps.items ≡ self.old.steps.items ++ Step.Start command ∷ []) }
-        ensures kept { OnErr result ((self.new.running.items ≡ self.old.running.items) × (self.new.steps.items ≡ self.old.steps.items)) }
+        requires apart { (path : Path) → takes command.outs path ≡ true
+            → held_at self.old.running.items path ≡ false }
+        ensures runs { OnOk result
+            (runs_at self.new.running.items
+            ≡ put_at (runs_at self.old.running.items) command.place (Some command)) }
+        ensures will { OnOk result
+            (will_at self.new.running.items
+            ≡ put_at (will_at self.old.running.items) command.place effect) }
+        ensures held { (path : Path) → held_at self.new.running.items path ≡ true
+            → takes command.outs path ≡ false → held_at self.old.running.items path ≡ true }
+        ensures count { OnOk result
+            (length self.new.running.items ≡ length self.old.running.items + 1) }
+        ensures order { OnOk result
+            (places_in self.new.running.items
+            ≡ places_in self.old.running.items ++ command.place ∷ []) }
+        ensures steps { OnOk result
+            (self.new.steps.items ≡ self.old.steps.items ++ Step.Start command ∷ []) }
+        ensures kept { OnErr result
+            ((self.new.running.items ≡ self.old.running.items)
+            × (self.new.steps.items ≡ self.old.steps.items)) }
         ensures memory { OnlyMemory result }
     {
         self.running.reserve(1)?;
@@ -82,12 +94,16 @@ impl Progress {
         requires { index < length self.old.running.items }
         ensures taken { result ≡ slice_index_or self.old.running.items index result }
         ensures ran { runs_at self.old.running.items result.command.place ≡ Some result.command }
-        ensures runs { runs_at self.new.running.items ≡ put_at (runs_at self.old.running.items) result.command.place None }
+        ensures runs { runs_at self.new.running.items
+            ≡ put_at (runs_at self.old.running.items) result.command.place None }
         ensures did { will_at self.old.running.items result.command.place ≡ result.effect }
-        ensures will { will_at self.new.running.items ≡ put_at (will_at self.old.running.items) result.command.place no_effect }
+        ensures will { will_at self.new.running.items
+            ≡ put_at (will_at self.old.running.items) result.command.place no_effect }
         ensures owned { owns_all result.command.outs result.effect.files ≡ true }
-        ensures held { (path : Path) → held_at self.new.running.items path ≡ true → held_at self.old.running.items path ≡ true }
-        ensures freed { (path : Path) → held_at self.new.running.items path ≡ true → takes result.command.outs path ≡ false }
+        ensures held { (path : Path) → held_at self.new.running.items path ≡ true
+            → held_at self.old.running.items path ≡ true }
+        ensures freed { (path : Path) → held_at self.new.running.items path ≡ true
+            → takes result.command.outs path ≡ false }
         ensures count { length self.old.running.items ≡ length self.new.running.items + 1 }
         ensures left { self.new.running.items ≡ remove self.old.running.items index }
         ensures steps { self.new.steps.items ≡ self.old.steps.items }
@@ -98,7 +114,8 @@ impl Progress {
     /// The end is a step.
     pub fn end(&mut self, end: Ended) -> Result<(), DevErr>
         ensures running { self.new.running.items ≡ self.old.running.items }
-        ensures steps { OnOk result (self.new.steps.items ≡ self.old.steps.items ++ Step.End end ∷ []) }
+        ensures steps { OnOk result
+            (self.new.steps.items ≡ self.old.steps.items ++ Step.End end ∷ []) }
         ensures kept { OnErr result (self.new.steps.items ≡ self.old.steps.items) }
         ensures memory { OnlyMemory result }
     {
@@ -109,7 +126,8 @@ impl Progress {
     /// How many run.
     pub fn len(&self) -> usize
         ensures count { result ≡ length self.now.running.items }
-        ensures some { 0 < result → (place : ℕ) × (is_some (runs_at self.now.running.items place) ≡ true) }
+        ensures some { 0 < result
+            → (place : ℕ) × (is_some (runs_at self.now.running.items place) ≡ true) }
     {
         self.running.len()
     }

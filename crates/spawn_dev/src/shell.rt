@@ -28,7 +28,8 @@ fn push_quoted(text: &mut String, word: &str) -> Result<(), DevErr>
 
 // Into the folder; nothing where that is the root.
 fn push_folder_line(alloc: Global, text: &mut String, folder: &RelPath) -> Result<(), DevErr>
-    ensures bytes { OnOk result (string_bytes text.new ≡ string_bytes text.old ++ folder_line folder.now) }
+    ensures bytes { OnOk result
+        (string_bytes text.new ≡ string_bytes text.old ++ folder_line folder.now) }
     ensures memory { OnlyMemory result }
 {
     if folder.components().is_empty() {
@@ -57,7 +58,8 @@ fn push_programs(text: &mut String, ups: usize) -> Result<(), DevErr>
 
 // The programs of the packages in this folder, which lies so deep, and in those above it.
 fn push_search_path(text: &mut String, depth: usize) -> Result<(), DevErr>
-    ensures bytes { OnOk result (string_bytes text.new ≡ string_bytes text.old ++ search_path depth) }
+    ensures bytes { OnOk result
+        (string_bytes text.new ≡ string_bytes text.old ++ search_path depth) }
     ensures memory { OnlyMemory result }
 {
     push_programs(text, 0)?;
@@ -69,7 +71,8 @@ fn push_search_path(text: &mut String, depth: usize) -> Result<(), DevErr>
 }
 
 fn push_search_line(text: &mut String, depth: usize) -> Result<(), DevErr>
-    ensures bytes { OnOk result (string_bytes text.new ≡ string_bytes text.old ++ search_line depth) }
+    ensures bytes { OnOk result
+        (string_bytes text.new ≡ string_bytes text.old ++ search_line depth) }
     ensures memory { OnlyMemory result }
 {
     text.push_str("PATH=")?;
@@ -79,7 +82,8 @@ fn push_search_line(text: &mut String, depth: usize) -> Result<(), DevErr>
 }
 
 fn push_script_line(text: &mut String, script: &str) -> Result<(), DevErr>
-    ensures bytes { OnOk result (string_bytes text.new ≡ string_bytes text.old ++ script_line script.now) }
+    ensures bytes { OnOk result
+        (string_bytes text.new ≡ string_bytes text.old ++ script_line script.now) }
     ensures memory { OnlyMemory result }
 {
     text.push_str("sh -c ")?;
@@ -89,7 +93,8 @@ fn push_script_line(text: &mut String, script: &str) -> Result<(), DevErr>
 }
 
 fn push_words(text: &mut String, words: &[Text]) -> Result<(), DevErr>
-    ensures bytes { OnOk result (string_bytes text.new ≡ string_bytes text.old ++ words_behind words.now) }
+    ensures bytes { OnOk result
+        (string_bytes text.new ≡ string_bytes text.old ++ words_behind words.now) }
     ensures memory { OnlyMemory result }
 {
     for word in words {
@@ -106,7 +111,9 @@ fn push_own_line(
     script: &Text,
     words: &[Text],
 ) -> Result<(), DevErr>
-    ensures bytes { OnOk result (string_bytes text.new ≡ string_bytes text.old ++ script_line (script.now ++ words_behind words.now)) }
+    ensures bytes { OnOk result
+        (string_bytes text.new
+        ≡ string_bytes text.old ++ script_line (script.now ++ words_behind words.now)) }
     ensures memory { OnlyMemory result }
 {
     let mut own = String::from_str(alloc, script.as_str())?;
@@ -117,7 +124,8 @@ fn push_own_line(
 
 // Scripts beside the task's own, of which an empty text stands for none.
 fn push_other_lines(text: &mut String, scripts: &[Text]) -> Result<(), DevErr>
-    ensures bytes { OnOk result (string_bytes text.new ≡ string_bytes text.old ++ other_lines scripts.now) }
+    ensures bytes { OnOk result
+        (string_bytes text.new ≡ string_bytes text.old ++ other_lines scripts.now) }
     ensures memory { OnlyMemory result }
 {
     for script in scripts {
@@ -134,7 +142,8 @@ fn push_script_lines(
     scripts: &[Text],
     words: &[Text],
 ) -> Result<(), DevErr>
-    ensures bytes { OnOk result (string_bytes text.new ≡ string_bytes text.old ++ script_lines words.now scripts.now) }
+    ensures bytes { OnOk result
+        (string_bytes text.new ≡ string_bytes text.old ++ script_lines words.now scripts.now) }
     ensures memory { OnlyMemory result }
 {
     if scripts.len() < 3 {

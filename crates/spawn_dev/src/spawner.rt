@@ -35,7 +35,9 @@ pub trait Spawner: Tree {
         ensures tree { SameTree (Self.state self.old) (Self.state self.new) }
         ensures book { (runs self.new).book ≡ (runs self.old).book }
         ensures started { OnOk result (Starts command (runs self.old) (runs self.new)) }
-        ensures begins { Self.tells → OnOk result (BeginsAs effect (Self.state self.old).files command (runs self.old) (runs self.new)) }
+        ensures begins { Self.tells
+            → OnOk result (BeginsAs effect (Self.state self.old).files command (runs self.old)
+            (runs self.new)) }
         ensures refused { OnErr result (Refuses (runs self.old) (runs self.new)) }
         ensures others { KeepsWill (runs self.old) (runs self.new) }
         ensures cause { HasCause (runs self.old).faults (runs self.new).faults result };
@@ -46,10 +48,16 @@ pub trait Spawner: Tree {
         requires busy { IsBusy (runs self.old) }
         ensures tree { (Self.state self.new).faults ≡ (Self.state self.old).faults }
         ensures book { (runs self.new).book ≡ (runs self.old).book }
-        ensures over { IfOk result (λ ended. IsOver ended.place (runs self.old) (runs self.new) (Self.state self.old).files (Self.state self.new).files) }
-        ensures ends { Self.tells → IfOk result (λ ended. EndsAs ended (runs self.old) (runs self.new) (Self.state self.old).files (Self.state self.new).files) }
+        ensures over { IfOk result
+            (λ ended. IsOver ended.place (runs self.old) (runs self.new) (Self.state self.old).files
+            (Self.state self.new).files) }
+        ensures ends { Self.tells
+            → IfOk result (λ ended. EndsAs ended (runs self.old) (runs self.new)
+            (Self.state self.old).files (Self.state self.new).files) }
         ensures short { IfOk result (λ ended. length ended.log ≤ log_limit) }
-        ensures failed { OnErr result ((place : ℕ) × IsOver place (runs self.old) (runs self.new) (Self.state self.old).files (Self.state self.new).files) }
+        ensures failed { OnErr result
+            ((place : ℕ) × IsOver place (runs self.old) (runs self.new) (Self.state self.old).files
+            (Self.state self.new).files) }
         ensures unsaid { OnErr result ((runs self.new).steps ≡ (runs self.old).steps) }
         ensures others { KeepsWill (runs self.old) (runs self.new) }
         ensures cause { HasCause (runs self.old).faults (runs self.new).faults result };

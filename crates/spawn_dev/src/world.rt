@@ -54,7 +54,15 @@ impl MemWorld {
         ensures order { order_of result ≡ [] }
         ensures ends { ends_of result ≡ ends.items }
         ensures waits { waits_of result ≡ 0 }
-        ensures runs { ⟦<MemWorld as Spawner>⟧.runs result ≡ record { book = book; at = λ _. None; will = will_at []; steps = []; count = 0; faults = 0 } }
+        ensures runs { ⟦<MemWorld as Spawner>⟧.runs result
+            ≡ record {
+              book = book;
+              at = λ _. None;
+              will = will_at [];
+              steps = [];
+              count = 0;
+              faults = 0;
+            } }
     {
         MemWorld {
             tree: MemTree::new(alloc, files, fails),
@@ -92,8 +100,10 @@ impl Tree for MemWorld {
     fn list(&mut self, alloc: Global, folder: &RelPath) -> Result<Entries, DevErr>
         ensures looks { Looks (state_of self.old) (state_of self.new) }
         ensures ascend { IfOk result (λ names. IsStrictlySortedBy entry_cmp names) }
-        ensures proper { IfOk result (λ names. All (IsProper (state_of self.old).reach folder.now) names) }
-        ensures names { IfOk result (λ names. NamesIn (state_of self.old).files (state_of self.old).held folder.now names) }
+        ensures proper { IfOk result
+            (λ names. All (IsProper (state_of self.old).reach folder.now) names) }
+        ensures names { IfOk result
+            (λ names. NamesIn (state_of self.old).files (state_of self.old).held folder.now names) }
         ensures cause { HasCause (state_of self.old).faults (state_of self.new).faults result }
         ensures told { FailsAsTold (turns_of self.old) (turns_of self.new) result }
         ensures order { KeepsOrder self.old self.new }
@@ -103,7 +113,8 @@ impl Tree for MemWorld {
 
     fn read(&mut self, alloc: Global, path: &RelPath, limit: u64) -> Result<Found, DevErr>
         ensures looks { Looks (state_of self.old) (state_of self.new) }
-        ensures found { IfOk result (λ found. found ≡ within limit ((state_of self.old).files path.now)) }
+        ensures found { IfOk result
+            (λ found. found ≡ within limit ((state_of self.old).files path.now)) }
         ensures cause { HasCause (state_of self.old).faults (state_of self.new).faults result }
         ensures told { FailsAsTold (turns_of self.old) (turns_of self.new) result }
         ensures order { KeepsOrder self.old self.new }
@@ -157,7 +168,9 @@ impl Spawner for MemWorld {
         ensures tree { SameTree (state_of self.old) (state_of self.new) }
         ensures book { (runs_of self.new).book ≡ (runs_of self.old).book }
         ensures started { OnOk result (Starts command (runs_of self.old) (runs_of self.new)) }
-        ensures begins { OnOk result (BeginsAs effect_of (state_of self.old).files command (runs_of self.old) (runs_of self.new)) }
+        ensures begins { OnOk result
+            (BeginsAs effect_of (state_of self.old).files command (runs_of self.old)
+            (runs_of self.new)) }
         ensures refused { OnErr result (Refuses (runs_of self.old) (runs_of self.new)) }
         ensures others { KeepsWill (runs_of self.old) (runs_of self.new) }
         ensures cause { HasCause (runs_of self.old).faults (runs_of self.new).faults result }
@@ -184,10 +197,16 @@ impl Spawner for MemWorld {
         requires busy { IsBusy (runs_of self.old) }
         ensures tree { (state_of self.new).faults ≡ (state_of self.old).faults }
         ensures book { (runs_of self.new).book ≡ (runs_of self.old).book }
-        ensures over { IfOk result (λ ended. IsOver ended.place (runs_of self.old) (runs_of self.new) (state_of self.old).files (state_of self.new).files) }
-        ensures ends { IfOk result (λ ended. EndsAs ended (runs_of self.old) (runs_of self.new) (state_of self.old).files (state_of self.new).files) }
+        ensures over { IfOk result
+            (λ ended. IsOver ended.place (runs_of self.old) (runs_of self.new)
+            (state_of self.old).files (state_of self.new).files) }
+        ensures ends { IfOk result
+            (λ ended. EndsAs ended (runs_of self.old) (runs_of self.new) (state_of self.old).files
+            (state_of self.new).files) }
         ensures short { IfOk result (λ ended. length ended.log ≤ log_limit) }
-        ensures failed { OnErr result ((place : ℕ) × IsOver place (runs_of self.old) (runs_of self.new) (state_of self.old).files (state_of self.new).files) }
+        ensures failed { OnErr result
+            ((place : ℕ) × IsOver place (runs_of self.old) (runs_of self.new)
+            (state_of self.old).files (state_of self.new).files) }
         ensures unsaid { OnErr result ((runs_of self.new).steps ≡ (runs_of self.old).steps) }
         ensures others { KeepsWill (runs_of self.old) (runs_of self.new) }
         ensures cause { HasCause (runs_of self.old).faults (runs_of self.new).faults result }
@@ -225,7 +244,8 @@ impl Spawner for MemWorld {
 
     ghost runs_by_rest = { λ a b e. e };
 
-    ghost held_by_running = { λ a path held. held_is_owned a.book a.progress.running.items a.progress.steps.items a.faults a.progress.distinct path held };
+    ghost held_by_running = { λ a path held. held_is_owned a.book a.progress.running.items
+        a.progress.steps.items a.faults a.progress.distinct path held };
 
     ghost well_behaved = { behaves };
 }

@@ -70,7 +70,8 @@ pub trait StoreDevice {
     /// anything.
     fn read_at(&mut self, at: u64, buf: &mut [u8]) -> Result<(), StoreErr>
         requires { tells → at + length buf.old ≤ length (content self.old) }
-        ensures value { tells → OnOk result (buf.new ≡ take (length buf.old) (drop at (content self.old))) }
+        ensures value { tells → OnOk result
+            (buf.new ≡ take (length buf.old) (drop at (content self.old))) }
         ensures reads { OnlyReads content images moment images_since self.old self.new }
         ensures only { OnlyFails result }
         ensures cause { Counts is_fault (store_faults self.old) (store_faults self.new) result };
@@ -79,11 +80,15 @@ pub trait StoreDevice {
     fn write_at(&mut self, alloc: Global, at: u64, bytes: &[u8]) -> Result<(), StoreErr>
         requires place { tells → at ≤ length (content self.old) }
         requires end { at + length bytes.now ≤ 2 ^ 62 }
-        ensures written { tells → OnOk result (Holds (content self.old) at bytes.now (content self.new)) }
-        ensures torn { tells → OnErr result (Torn at (length bytes.now) (content self.old) (content self.new)) }
-        ensures memory { IsErrOf result StoreErr.OutOfMemory → SameWith (content self.old) (content self.new) (images self.old) (images self.new) }
+        ensures written { tells → OnOk result
+            (Holds (content self.old) at bytes.now (content self.new)) }
+        ensures torn { tells → OnErr result
+            (Torn at (length bytes.now) (content self.old) (content self.new)) }
+        ensures memory { IsErrOf result StoreErr.OutOfMemory
+            → SameWith (content self.old) (content self.new) (images self.old) (images self.new) }
         ensures images { Follows (Torn at (length bytes.now)) (images self.old) (images self.new) }
-        ensures time { Elapses (moment self.old) (moment self.new) (images_since self.old) (images_since self.new) (images self.new) }
+        ensures time { Elapses (moment self.old) (moment self.new) (images_since self.old)
+            (images_since self.new) (images self.new) }
         ensures cause { Counts is_fault (store_faults self.old) (store_faults self.new) result };
 
     /// After it a crash leaves what a read gives. It takes no memory.

@@ -73,11 +73,14 @@ impl StoreDevice for FuseStore {
 
     ghost few_bytes = { λ d _. d.inner.few };
 
-    ghost as_it_reads = { λ d _. reads_as_one (bytes_of d) (inside.start_of d.inner) (inside.steps_of d.inner) d.inner.replayed };
+    ghost as_it_reads = { λ d _. reads_as_one (bytes_of d) (inside.start_of d.inner)
+        (inside.steps_of d.inner) d.inner.replayed };
 
-    ghost counts_now = { λ d m c le now. counts (inside.start_of d.inner) (inside.steps_of d.inner) m c le now };
+    ghost counts_now = { λ d m c le now. counts (inside.start_of d.inner) (inside.steps_of d.inner)
+        m c le now };
 
-    ghost only_now = { λ d c left. only (inside.start_of d.inner) (inside.steps_of d.inner) c left };
+    ghost only_now = { λ d c left. only (inside.start_of d.inner) (inside.steps_of d.inner) c
+        left };
 
     fn len(&mut self) -> Result<u64, StoreErr>
         ensures value { IfOk result (λ n. n ≡ length (bytes_of self.old)) }
@@ -94,7 +97,8 @@ impl StoreDevice for FuseStore {
 
     fn read_at(&mut self, at: u64, buf: &mut [u8]) -> Result<(), StoreErr>
         requires { at + length buf.old ≤ length (bytes_of self.old) }
-        ensures value { OnOk result (buf.new ≡ take (length buf.old) (drop at (bytes_of self.old))) }
+        ensures value { OnOk result
+            (buf.new ≡ take (length buf.old) (drop at (bytes_of self.old))) }
         ensures reads { OnlyReads bytes_of images_of moment_of images_since_of self.old self.new }
         ensures only { OnlyFails result }
         ensures cause { Counts is_fault (faults_of self.old) (faults_of self.new) result }
@@ -110,10 +114,15 @@ impl StoreDevice for FuseStore {
         requires place { at ≤ length (bytes_of self.old) }
         requires end { at + length bytes.now ≤ 2 ^ 62 }
         ensures written { OnOk result (Holds (bytes_of self.old) at bytes.now (bytes_of self.new)) }
-        ensures torn { OnErr result (Torn at (length bytes.now) (bytes_of self.old) (bytes_of self.new)) }
-        ensures memory { IsErrOf result StoreErr.OutOfMemory → SameWith (bytes_of self.old) (bytes_of self.new) (images_of self.old) (images_of self.new) }
-        ensures images { Follows (Torn at (length bytes.now)) (images_of self.old) (images_of self.new) }
-        ensures time { Elapses (moment_of self.old) (moment_of self.new) (images_since_of self.old) (images_since_of self.new) (images_of self.new) }
+        ensures torn { OnErr result
+            (Torn at (length bytes.now) (bytes_of self.old) (bytes_of self.new)) }
+        ensures memory { IsErrOf result StoreErr.OutOfMemory
+            → SameWith (bytes_of self.old) (bytes_of self.new) (images_of self.old)
+            (images_of self.new) }
+        ensures images { Follows (Torn at (length bytes.now)) (images_of self.old)
+            (images_of self.new) }
+        ensures time { Elapses (moment_of self.old) (moment_of self.new) (images_since_of self.old)
+            (images_since_of self.new) (images_of self.new) }
         ensures cause { Counts is_fault (faults_of self.old) (faults_of self.new) result }
         ensures fuse { FailsWhenSpent self.old self.new result }
     {

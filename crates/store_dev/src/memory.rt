@@ -68,7 +68,8 @@ impl MemStore {
     /// The device after a crash now in which every byte that was written since the last sync is `fill`, and at most
     /// `keep` bytes stand past the synced end. No call of it fails.
     pub fn crash(&self, alloc: Global, fill: u8, keep: u64) -> Result<MemStore, StoreErr>
-        ensures image { IfOk result (λ after. bytes_of after ≡ crash_of fill keep (start_of self.now) (steps_of self.now)) }
+        ensures image { IfOk result
+            (λ after. bytes_of after ≡ crash_of fill keep (start_of self.now) (steps_of self.now)) }
         ensures allowed { IfOk result (λ after. images_of self.now (bytes_of after)) }
         ensures steps { IfOk result (λ after. steps_of after ≡ []) }
         ensures fails { IfOk result (λ after. failing after ≡ []) }
@@ -130,11 +131,14 @@ impl StoreDevice for MemStore {
 
     ghost few_bytes = { λ m _. m.few };
 
-    ghost as_it_reads = { λ m _. reads_as_one m.bytes.items (origin m.bytes.items m.first.items m.steps.items) m.steps.items m.replayed };
+    ghost as_it_reads = { λ m _. reads_as_one m.bytes.items
+        (origin m.bytes.items m.first.items m.steps.items) m.steps.items m.replayed };
 
-    ghost counts_now = { λ m t c le now. counts (origin m.bytes.items m.first.items m.steps.items) m.steps.items t c le now };
+    ghost counts_now = { λ m t c le now. counts (origin m.bytes.items m.first.items m.steps.items)
+        m.steps.items t c le now };
 
-    ghost only_now = { λ m c left. only (origin m.bytes.items m.first.items m.steps.items) m.steps.items c left };
+    ghost only_now = { λ m c left. only (origin m.bytes.items m.first.items m.steps.items)
+        m.steps.items c left };
 
     fn len(&mut self) -> Result<u64, StoreErr>
         ensures value { IfOk result (λ n. n ≡ length (bytes_of self.old)) }
@@ -151,7 +155,8 @@ impl StoreDevice for MemStore {
 
     fn read_at(&mut self, at: u64, buf: &mut [u8]) -> Result<(), StoreErr>
         requires { at + length buf.old ≤ length (bytes_of self.old) }
-        ensures value { OnOk result (buf.new ≡ take (length buf.old) (drop at (bytes_of self.old))) }
+        ensures value { OnOk result
+            (buf.new ≡ take (length buf.old) (drop at (bytes_of self.old))) }
         ensures reads { OnlyReads bytes_of images_of moment_of images_since_of self.old self.new }
         ensures only { OnlyFails result }
         ensures cause { Counts is_fault (faults_of self.old) (faults_of self.new) result }
@@ -169,10 +174,15 @@ impl StoreDevice for MemStore {
         requires place { at ≤ length (bytes_of self.old) }
         requires end { at + length bytes.now ≤ 2 ^ 62 }
         ensures written { OnOk result (Holds (bytes_of self.old) at bytes.now (bytes_of self.new)) }
-        ensures torn { OnErr result (Torn at (length bytes.now) (bytes_of self.old) (bytes_of self.new)) }
-        ensures memory { IsErrOf result StoreErr.OutOfMemory → SameWith (bytes_of self.old) (bytes_of self.new) (images_of self.old) (images_of self.new) }
-        ensures images { Follows (Torn at (length bytes.now)) (images_of self.old) (images_of self.new) }
-        ensures time { Elapses (moment_of self.old) (moment_of self.new) (images_since_of self.old) (images_since_of self.new) (images_of self.new) }
+        ensures torn { OnErr result
+            (Torn at (length bytes.now) (bytes_of self.old) (bytes_of self.new)) }
+        ensures memory { IsErrOf result StoreErr.OutOfMemory
+            → SameWith (bytes_of self.old) (bytes_of self.new) (images_of self.old)
+            (images_of self.new) }
+        ensures images { Follows (Torn at (length bytes.now)) (images_of self.old)
+            (images_of self.new) }
+        ensures time { Elapses (moment_of self.old) (moment_of self.new) (images_since_of self.old)
+            (images_since_of self.new) (images_of self.new) }
         ensures cause { Counts is_fault (faults_of self.old) (faults_of self.new) result }
         ensures told { FailsAsTold self.old self.new result }
     {
@@ -217,7 +227,8 @@ fn make_room(
     ensures count { vec_len steps.new ≡ vec_len steps.old }
     ensures grows { vec_capacity steps.old ≤ vec_capacity steps.new }
     ensures room { OnOk result (vec_len steps.new + 2 ≤ vec_capacity steps.new) }
-    ensures begun { OnOk result (first.new.items ≡ origin bytes.now first.old.items steps.old.items) }
+    ensures begun { OnOk result
+        (first.new.items ≡ origin bytes.now first.old.items steps.old.items) }
     ensures kept { 1 ≤ length steps.old.items → first.new.items ≡ first.old.items }
     ensures memory { IfErr result (λ e. e ≡ StoreErr.OutOfMemory) }
 {
@@ -266,7 +277,8 @@ fn crashed(
     fill: u8,
     keep: u64,
 ) -> Result<Vec<u8>, StoreErr>
-    ensures image { IfOk result (λ bytes. bytes.items ≡ filled fill (length synced.items + keep) synced.items writes.now) }
+    ensures image { IfOk result
+        (λ bytes. bytes.items ≡ filled fill (length synced.items + keep) synced.items writes.now) }
     ensures memory { IfErr result (λ e. e ≡ StoreErr.OutOfMemory) }
 {
     let end = synced.len();

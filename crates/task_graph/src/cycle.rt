@@ -15,7 +15,8 @@ use std::alloc::Global;
 /// The least task that is left.
 fn first_left(slots: &[Slot]) -> Option<u32>
     requires { length slots.now < 2 ^ 32 }
-    ensures { MatchOption result ((n : ℕ) → is_left slots.now n ≡ false) (IsLeastNumber (is_left slots.now)) }
+    ensures { MatchOption result ((n : ℕ) → is_left slots.now n ≡ false)
+        (IsLeastNumber (is_left slots.now)) }
 {
     for (task, slot) in slots.iter().enumerate() {
         if slot.unmet != 0 {
@@ -72,8 +73,11 @@ pub(crate) fn cycle(
 ) -> Result<Option<Places>, GraphErr>
     requires rows { AreRows rows.now }
     requires same { length slots.now ≡ length rows.now }
-    requires steps { (n : ℕ) → is_left slots.now n ≡ true → list_any (is_left slots.now) (row_at rows.now n) ≡ true }
-    ensures cycle { IfOk result (λ found. MatchOption found ((n : ℕ) → is_left slots.now n ≡ false) (Circles rows.now (is_left slots.now))) }
+    requires steps { (n : ℕ) → is_left slots.now n ≡ true
+        → list_any (is_left slots.now) (row_at rows.now n) ≡ true }
+    ensures cycle { IfOk result
+        (λ found. MatchOption found ((n : ℕ) → is_left slots.now n ≡ false)
+        (Circles rows.now (is_left slots.now))) }
     ensures memory { OnlyMemory result }
 {
     let mut path = Vec::new(alloc);

@@ -88,7 +88,8 @@ fn add_text(
 
 /// The task of a text `^task`.
 fn behind_caret(alloc: Global, text: &str) -> Result<Option<Text>, GraphErr>
-    ensures value { IfOk result (λ name. name ≡ (if begins_caret text.now then Some (drop 1 text.now) else None)) }
+    ensures value { IfOk result
+        (λ name. name ≡ (if begins_caret text.now then Some (drop 1 text.now) else None)) }
     ensures memory { OnlyMemory result }
 {
     match text.strip_prefix('^') {

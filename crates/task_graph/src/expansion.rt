@@ -17,7 +17,8 @@ use workspaces::Packages;
 
 /// The nodes of tasks with what they depend on, or the refusal of the first that has one.
 fn nodes_of(alloc: Global, rows: Vec<(TaskId, Row)>) -> Result<Vec<Node>, GraphErr>
-    ensures { MatchResult result (λ nodes. nodes_by rows.items ≡ Ok nodes.items) (λ e. (e ≡ OutOfMemory) ⊎ (nodes_by rows.items ≡ Err e)) }
+    ensures { MatchResult result (λ nodes. nodes_by rows.items ≡ Ok nodes.items)
+        (λ e. (e ≡ OutOfMemory) ⊎ (nodes_by rows.items ≡ Err e)) }
 {
     let mut nodes = Vec::new(alloc);
     for (id, row) in rows {

@@ -38,7 +38,8 @@ pub(crate) fn is_task(
 
 /// The task that a text `package#task` names, if it is one.
 pub(crate) fn full_id(alloc: Global, text: &str) -> Result<Option<TaskId>, GraphErr>
-    ensures value { IfOk result (λ id. id ≡ (if spec.is_full text.now then Some (spec.full_id text.now) else None)) }
+    ensures value { IfOk result
+        (λ id. id ≡ (if spec.is_full text.now then Some (spec.full_id text.now) else None)) }
     ensures memory { OnlyMemory result }
 {
     match text.split_once('#') {

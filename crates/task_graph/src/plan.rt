@@ -41,7 +41,8 @@ pub(crate) fn plan_of(
     requires nodes { AreBelow (length nodes.now) order.now }
     requires slots { AreBelow (length slots.now) order.now }
     ensures ids { IfOk result (λ plan. plan.ids ≡ map (id_at nodes.now) order.now) }
-    ensures deps { IfOk result (λ plan. plan.deps ≡ map (λ n. (slot_at slots.now n).places) order.now) }
+    ensures deps { IfOk result
+        (λ plan. plan.deps ≡ map (λ n. (slot_at slots.now n).places) order.now) }
     ensures memory { OnlyMemory result }
 {
     let mut deps = PlaceLists::new(alloc);

@@ -38,7 +38,8 @@ pub(crate) fn slots_of(alloc: Global, rows: &[Places]) -> Result<Vec<Slot>, Grap
 /// The tasks that depend on none.
 pub(crate) fn ready_of(alloc: Global, rows: &[Places]) -> Result<BTreeSet<u32>, GraphErr>
     requires { length rows.now < 2 ^ 32 }
-    ensures value { IfOk result (λ ready. (n : ℕ) → contains nat_cmp ready n ≡ is_ready rows.now [] n) }
+    ensures value { IfOk result
+        (λ ready. (n : ℕ) → contains nat_cmp ready n ≡ is_ready rows.now [] n) }
     ensures memory { OnlyMemory result }
 {
     let mut ready = BTreeSet::new(alloc);
@@ -56,7 +57,10 @@ pub(crate) fn settle(slots: &mut Vec<Slot>, users: &[u32], place: u32) -> Result
     requires ascend { IsStrictlySortedBy nat_cmp users.now }
     requires unmet { (n : ℕ) → is_in users.now n ≡ true → 0 < (slot_at slots.old.items n).unmet }
     ensures same { OnOk result (length slots.new.items ≡ length slots.old.items) }
-    ensures settled { OnOk result ((n : ℕ) → slot_at slots.new.items n ≡ (if is_in users.now n then settled place (slot_at slots.old.items n) else slot_at slots.old.items n)) }
+    ensures settled { OnOk result
+        ((n : ℕ) → slot_at slots.new.items n
+        ≡ (if is_in users.now n then settled place (slot_at slots.old.items n)
+        else slot_at slots.old.items n)) }
     ensures memory { OnlyMemory result }
 {
     for user in users {
@@ -70,7 +74,10 @@ pub(crate) fn settle(slots: &mut Vec<Slot>, users: &[u32], place: u32) -> Result
 /// Those without an open dependency are ready.
 pub(crate) fn wake(ready: &mut BTreeSet<u32>, slots: &[Slot], users: &[u32]) -> Result<(), GraphErr>
     requires { AreBelow (length slots.now) users.now }
-    ensures woken { OnOk result ((n : ℕ) → contains nat_cmp ready.new n ≡ (contains nat_cmp ready.old n || (is_in users.now n && ((slot_at slots.now n).unmet == 0)))) }
+    ensures woken { OnOk result
+        ((n : ℕ) → contains nat_cmp ready.new n
+        ≡ (contains nat_cmp ready.old n
+        || (is_in users.now n && ((slot_at slots.now n).unmet == 0)))) }
     ensures memory { OnlyMemory result }
 {
     for user in users {

@@ -20,7 +20,8 @@ pub(crate) struct Sorting {
 /// The tasks in plan order, as far as there is one. The row of each task lists what it depends on.
 pub(crate) fn sorted(alloc: Global, rows: &[Places]) -> Result<Sorting, GraphErr>
     requires { AreRows rows.now }
-    ensures sorted { IfOk result (λ sorting. IsSorted rows.now sorting.order.items sorting.slots.items) }
+    ensures sorted { IfOk result
+        (λ sorting. IsSorted rows.now sorting.order.items sorting.slots.items) }
     ensures memory { OnlyMemory result }
 {
     let users = users_of(alloc, rows)?;

@@ -66,7 +66,8 @@ fn all_names(
     folder: &RelPath,
 ) -> Result<Vec<Entry>, DevErr>
     ensures names { IfOk result (λ names. Gives files.now folder.now names.items) }
-    ensures proper { IfOk result (λ names. All (IsProper (deepest files.now) folder.now) names.items) }
+    ensures proper { IfOk result
+        (λ names. All (IsProper (deepest files.now) folder.now) names.items) }
     ensures memory { OnlyMemory result }
 {
     let mut names = Vec::new(alloc);
@@ -85,7 +86,8 @@ pub fn sorted_names(
 ) -> Result<Vec<Entry>, DevErr>
     ensures names { IfOk result (λ names. Gives files.now folder.now names.items) }
     ensures ascend { IfOk result (λ names. IsStrictlySortedBy entry_cmp names.items) }
-    ensures proper { IfOk result (λ names. All (IsProper (deepest files.now) folder.now) names.items) }
+    ensures proper { IfOk result
+        (λ names. All (IsProper (deepest files.now) folder.now) names.items) }
     ensures memory { OnlyMemory result }
 {
     let mut names = all_names(alloc, files, folder)?;

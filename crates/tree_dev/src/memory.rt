@@ -73,7 +73,8 @@ fn place_of(files: &[(RelPath, Bytes)], path: &RelPath) -> Option<usize>
 
 // Puts these bytes at the path, in the place of the first file there.
 fn write_at(files: &mut Vec<(RelPath, Bytes)>, path: RelPath, bytes: Bytes) -> Result<(), DevErr>
-    ensures others { OnOk result (SameBut path (file_at files.old.items) (file_at files.new.items)) }
+    ensures others { OnOk result
+        (SameBut path (file_at files.old.items) (file_at files.new.items)) }
     ensures written { OnOk result (file_at files.new.items path ≡ Some bytes) }
     ensures kept { OnErr result (files.new.items ≡ files.old.items) }
     ensures memory { OnlyMemory result }
@@ -99,7 +100,14 @@ impl MemTree {
     /// nothing but the counts. It takes no memory.
     pub fn new(alloc: Global, files: Files, fails: Vec<u64>) -> MemTree
         ensures turns { tree_turns result ≡ record { fails = fails; next = 0 } }
-        ensures state { ⟦<MemTree as Tree>⟧.state result ≡ record { files = file_at files; held = λ _. false; rest = tt; reach = deepest files; faults = 0 } }
+        ensures state { ⟦<MemTree as Tree>⟧.state result
+            ≡ record {
+              files = file_at files;
+              held = λ _. false;
+              rest = tt;
+              reach = deepest files;
+              faults = 0;
+            } }
     {
         MemTree {
             alloc,
@@ -118,10 +126,14 @@ impl MemTree {
     /// Puts these files into their places, as no call of a tree that is counted. Of a path that stands twice among
     /// them the first counts.
     pub fn put_all(&mut self, files: Files) -> Result<(), DevErr>
-        ensures files { OnOk result ((⟦<MemTree as Tree>⟧.state self.new).files ≡ over (⟦<MemTree as Tree>⟧.state self.old).files (file_at files)) }
-        ensures faults { (⟦<MemTree as Tree>⟧.state self.new).faults ≡ (⟦<MemTree as Tree>⟧.state self.old).faults }
+        ensures files { OnOk result
+            ((⟦<MemTree as Tree>⟧.state self.new).files
+            ≡ over (⟦<MemTree as Tree>⟧.state self.old).files (file_at files)) }
+        ensures faults { (⟦<MemTree as Tree>⟧.state self.new).faults
+            ≡ (⟦<MemTree as Tree>⟧.state self.old).faults }
         ensures turns { tree_turns self.new ≡ tree_turns self.old }
-        ensures kept { OnErr result (⟦<MemTree as Tree>⟧.state self.new ≡ ⟦<MemTree as Tree>⟧.state self.old) }
+        ensures kept { OnErr result
+            (⟦<MemTree as Tree>⟧.state self.new ≡ ⟦<MemTree as Tree>⟧.state self.old) }
         ensures memory { OnlyMemory result }
     {
         let mut all = files.into_vec();
@@ -159,8 +171,10 @@ impl Tree for MemTree {
     fn list(&mut self, alloc: Global, folder: &RelPath) -> Result<Entries, DevErr>
         ensures looks { Looks (state_of self.old) (state_of self.new) }
         ensures ascend { IfOk result (λ names. IsStrictlySortedBy entry_cmp names) }
-        ensures proper { IfOk result (λ names. All (IsProper (state_of self.old).reach folder.now) names) }
-        ensures names { IfOk result (λ names. NamesIn (state_of self.old).files (state_of self.old).held folder.now names) }
+        ensures proper { IfOk result
+            (λ names. All (IsProper (state_of self.old).reach folder.now) names) }
+        ensures names { IfOk result
+            (λ names. NamesIn (state_of self.old).files (state_of self.old).held folder.now names) }
         ensures cause { HasCause (state_of self.old).faults (state_of self.new).faults result }
         ensures told { FailsAsTold (tree_turns self.old) (tree_turns self.new) result }
     {
@@ -174,7 +188,8 @@ impl Tree for MemTree {
 
     fn read(&mut self, alloc: Global, path: &RelPath, limit: u64) -> Result<Found, DevErr>
         ensures looks { Looks (state_of self.old) (state_of self.new) }
-        ensures found { IfOk result (λ found. found ≡ within limit ((state_of self.old).files path.now)) }
+        ensures found { IfOk result
+            (λ found. found ≡ within limit ((state_of self.old).files path.now)) }
         ensures cause { HasCause (state_of self.old).faults (state_of self.new).faults result }
         ensures told { FailsAsTold (tree_turns self.old) (tree_turns self.new) result }
     {

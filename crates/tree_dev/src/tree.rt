@@ -39,15 +39,18 @@ pub trait Tree {
     fn list(&mut self, alloc: Global, folder: &RelPath) -> Result<Entries, DevErr>
         ensures looks { Looks (state self.old) (state self.new) }
         ensures ascend { IfOk result (λ names. IsStrictlySortedBy entry_cmp names) }
-        ensures proper { IfOk result (λ names. All (IsProper (state self.old).reach folder.now) names) }
-        ensures names { tells → IfOk result (λ names. NamesIn (state self.old).files (state self.old).held folder.now names) }
+        ensures proper { IfOk result
+            (λ names. All (IsProper (state self.old).reach folder.now) names) }
+        ensures names { tells → IfOk result
+            (λ names. NamesIn (state self.old).files (state self.old).held folder.now names) }
         ensures cause { HasCause (state self.old).faults (state self.new).faults result };
 
     /// The bytes at a path, where there are at most `limit` of them.
     fn read(&mut self, alloc: Global, path: &RelPath, limit: u64) -> Result<Found, DevErr>
         requires { (state self.old).held path.now ≡ false }
         ensures looks { Looks (state self.old) (state self.new) }
-        ensures found { tells → IfOk result (λ found. found ≡ within limit ((state self.old).files path.now)) }
+        ensures found { tells → IfOk result
+            (λ found. found ≡ within limit ((state self.old).files path.now)) }
         ensures cause { HasCause (state self.old).faults (state self.new).faults result };
 
     /// Puts these bytes at the path, in the place of what was there, and makes the folders above it.

@@ -42,12 +42,15 @@ pub fn gather<T: Tree, P: Choose>(
     folder: &RelPath,
     found: &mut Paths,
 ) -> Result<(), WalkErr>
-    requires free { T.tells → (path : Path) → (P.choice choose.now).wants path ≡ true → (T.state tree.old).held path ≡ false }
+    requires free { T.tells → (path : Path) → (P.choice choose.now).wants path ≡ true
+        → (T.state tree.old).held path ≡ false }
     requires room { length found.old ≤ bounds.now.most }
     requires high { length folder.now ≤ bounds.now.depth }
     ensures looks { Looks (T.state tree.old) (T.state tree.new) }
     ensures room { length found.new ≤ bounds.now.most }
-    ensures gathered { Gathered T.tells (T.state tree.old).files (T.state tree.old).held (P.choice choose.now) bounds.now.depth bounds.now.most folder.now everywhere found.old found.new result }
+    ensures gathered { Gathered T.tells (T.state tree.old).files (T.state tree.old).held
+        (P.choice choose.now) bounds.now.depth bounds.now.most folder.now everywhere found.old
+        found.new result }
     ensures cause { HasCause (T.state tree.old).faults (T.state tree.new).faults result }
 {
     let names = match tree.list(alloc, folder) {
@@ -98,14 +101,18 @@ fn visit<T: Tree, P: Choose>(
     entry: &Entry,
     found: &mut Paths,
 ) -> Result<(), WalkErr>
-    requires free { T.tells → (path : Path) → (P.choice choose.now).wants path ≡ true → (T.state tree.old).held path ≡ false }
+    requires free { T.tells → (path : Path) → (P.choice choose.now).wants path ≡ true
+        → (T.state tree.old).held path ≡ false }
     requires room { length found.old ≤ bounds.now.most }
     requires proper { IsProper (T.state tree.old).reach folder.now entry.now }
     requires deep { length folder.now < bounds.now.depth }
-    requires there { T.tells → IsListed (T.state tree.old).files (T.state tree.old).held folder.now entry.now }
+    requires there { T.tells → IsListed (T.state tree.old).files (T.state tree.old).held folder.now
+        entry.now }
     ensures looks { Looks (T.state tree.old) (T.state tree.new) }
     ensures room { length found.new ≤ bounds.now.most }
-    ensures gathered { Gathered T.tells (T.state tree.old).files (T.state tree.old).held (P.choice choose.now) bounds.now.depth bounds.now.most folder.now (is_at folder.now entry.now) found.old found.new result }
+    ensures gathered { Gathered T.tells (T.state tree.old).files (T.state tree.old).held
+        (P.choice choose.now) bounds.now.depth bounds.now.most folder.now
+        (is_at folder.now entry.now) found.old found.new result }
     ensures cause { HasCause (T.state tree.old).faults (T.state tree.new).faults result }
 {
     if entry.folder {

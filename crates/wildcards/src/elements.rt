@@ -8,7 +8,8 @@ pub trait Elements: Copy {
     ghost elements: { Self → List Self.Element };
 
     fn first(&self) -> Option<&Self::Element>
-        ensures { MatchOption result (elements self.now ≡ []) (λ first. elements self.now ≡ first.now ∷ drop 1 (elements self.now)) };
+        ensures { MatchOption result (elements self.now ≡ [])
+            (λ first. elements self.now ≡ first.now ∷ drop 1 (elements self.now)) };
 
     /// What stands behind the first element; nothing behind none.
     fn behind(&self) -> Self
