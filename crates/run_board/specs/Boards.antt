@@ -40,6 +40,7 @@ pub record IsBoard (plan : Plan) (board : Board) : Type 0 where
   pub good : length board.good ≡ length plan.listing.parts
   pub fingerprints : length board.fingerprints ≡ length plan.listing.parts
   pub shown : board.shown ≤ length plan.listing.parts
+  pub ahead : board.ahead ≤ length plan.listing.parts
   pub flags : (t : ℕ) → IsFlag plan (states board.core) t (flag_in board.good t)
   pub known : (t : ℕ) → IsKnown plan t (fingerprint_in board.fingerprints t)
 

@@ -5,7 +5,9 @@ use run_plan::Reports;
 
 /// What a run keeps of its tasks: how far each is, what is to be said of it, its log until that
 /// was said, whether it and all its ancestors came to a good end, the fingerprint of its key where
-/// that was hashed, and how many tasks were shown, in the order of the plan.
+/// that was hashed, how many tasks were shown, in the order of the plan, and the place from which
+/// keys are still to be hashed ahead: those of all tasks before it were hashed, or are hashed when
+/// they are asked for.
 #[derive(Drop)]
 pub struct Board {
     pub core: Core,
@@ -14,4 +16,5 @@ pub struct Board {
     pub good: Flags,
     pub fingerprints: Fingerprints,
     pub shown: usize,
+    pub ahead: u32,
 }

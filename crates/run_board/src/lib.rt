@@ -20,11 +20,12 @@
 //! settled.
 //!
 //! [`Board::fingerprint`] hashes the keys of the next tasks together with the one that is asked
-//! for, and keeps the fingerprints alone. The board stays the same but for these, whatever it
-//! answers.
+//! for, and keeps the fingerprints alone. [`Board::hash_next`] hashes the next keys before one is
+//! asked for, while commands run. The board stays the same but for these, whatever they answer.
 //!
 //! [`show_settled`] and [`conclude`] fail with `SinkFault` where the output failed, and with
-//! `OutOfMemory`; [`Board::new`], [`Board::fingerprint`] and the tables fail with `OutOfMemory`.
+//! `OutOfMemory`; [`Board::new`], [`Board::fingerprint`], [`Board::hash_next`] and the tables fail
+//! with `OutOfMemory`.
 //! The moves cannot fail.
 #![tactic(auto)]
 

@@ -62,6 +62,7 @@ impl Board {
             good: Flags::new(alloc, size)?,
             fingerprints: Fingerprints::new(alloc, size)?,
             shown: 0,
+            ahead: 0,
         })
     }
 

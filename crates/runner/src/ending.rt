@@ -26,6 +26,7 @@ ghost use Rattle.runner.specs.Halting.{CacheGoes, HaltsFrom, WorldGoes};
 ghost use Rattle.run_board.specs.Progress.{StaysOn, now_of};
 ghost use Rattle.runner.specs.Running.{InStep};
 
+use crate::hashing::hash_while_running;
 use crate::settling::settle_before_wait;
 use cache_api::{Cache, OwnKey};
 use page::Mark;
@@ -173,7 +174,7 @@ fn finish<W: Spawner, C: Cache>(
 }
 
 /// Waits for the end of a command, writes its log file, and keeps its result. Where no command has
-/// ended yet, what is due is put before.
+/// ended yet, what is due is put before, and then keys are hashed that will be asked for.
 pub fn wait_first<W: Spawner, C: Cache>(
     alloc: Global,
     plan: &Plan,
@@ -222,5 +223,6 @@ pub fn wait_first<W: Spawner, C: Cache>(
     story_law();
     halt_law();
     settle_before_wait(alloc, world, cache)?;
+    hash_while_running(alloc, plan, board, world)?;
     finish(alloc, plan, board, world, cache)
 }

@@ -22,6 +22,8 @@
 //! The cache may hold results back while commands run; `settling` says when these are put. Where
 //! the cache may still be used they are put before `run` answers.
 //!
+//! Keys of tasks that will be looked up are hashed while commands run, by `hashing`.
+//!
 //! `specs/Answers` has what `run` says beside what a plan's run is to leave; the other files of
 //! `specs/` say how the tables of `run_board` go with what runs, and what a run leaves where it
 //! stops.
@@ -29,6 +31,7 @@
 
 mod draining;
 mod ending;
+mod hashing;
 mod looking;
 mod rounds;
 mod running;

@@ -102,8 +102,9 @@ fn run_through<W: Spawner, C: Cache, K: Sink>(
 ///
 /// The key of a task is made when it is looked up, and once more when its command has ended; it is
 /// not kept meanwhile, but its fingerprint is. It is hashed once, together with the keys of up to
-/// three tasks that come next, and is made once more for that. Beyond that, a task costs about as
-/// much as its closure has bytes.
+/// three other tasks, and is made once more for that: while a command runs and none has ended, or
+/// else when the first of them is looked up. Beyond that, a task costs about as much as its closure
+/// has bytes.
 pub fn run<W: Spawner, C: Cache, K: Sink>(
     alloc: Global,
     plan: &Plan,

@@ -32,6 +32,7 @@ returns-clause-moved c =
         good = c.requires.board.good;
         fingerprints = c.requires.board.fingerprints;
         shown = c.requires.board.shown;
+        ahead = c.requires.board.ahead;
         flags = flags-bare plan c.requires.plan st later t old.good moved (ap is_done bare)
             (ap is_done here) c.requires.board.flags;
         known = c.requires.board.known;

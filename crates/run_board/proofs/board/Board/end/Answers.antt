@@ -51,6 +51,7 @@ returns-clause-moved c =
         good = c.set-2.ensures.size ∙ c.requires.board.good;
         fingerprints = c.requires.board.fingerprints;
         shown = c.requires.board.shown;
+        ahead = c.requires.board.ahead;
         flags = flags-done plan valid st later t old.good c.set-2.new.self _ moved
             (ap is_done running) c.requires.board.flags
             (c.set-2.ensures.set ∙ ap (λ f. put_at (flag_in old.good) t f) value) flag;

@@ -13,6 +13,7 @@ returns-clause-board c = record {
   good = c.in_ok-new-3.ensures.size ∙ c.size-size.ensures;
   fingerprints = c.in_ok-new-4.ensures.size ∙ c.size-size.ensures;
   shown = omega arith;
+  ahead = omega arith;
   flags = λ t. record {
     good = λ h. absurd (false≢true (ap (λ f. f t) (sym c.in_ok-new-3.ensures.none) ∙ h));
     bad = λ h done. absurd (false≢true

@@ -39,6 +39,7 @@ returns-clause-moved c =
         good = c.set.ensures.size ∙ c.requires.board.good;
         fingerprints = c.requires.board.fingerprints;
         shown = c.requires.board.shown;
+        ahead = c.requires.board.ahead;
         flags = flags-done plan c.requires.plan st later t old.good c.set.new.self _ moved
             (ap is_done waits) c.requires.board.flags set flag;
         known = c.requires.board.known;
