@@ -1,9 +1,7 @@
 // An artifact from the parts of its text.
-ghost use Rattle.std.specs.Prelude.{◌≡◌, ◌∷◌, [], ℕ, List, IfOk, IfErr, IsTrue, map};
-ghost use Rattle.codes.specs.Codes.{read_str, read_both, whole_of};
+ghost use Rattle.std.specs.Prelude.{◌≡◌, [], ℕ, List, IfOk, IsTrue, map};
 ghost use Rattle.cache_api.specs.Hits.{paths_ascend, each_before};
 ghost use Rattle.cache_api.specs.Memory.{OnlyMemory};
-ghost use Rattle.cache_api.specs.Reading.{read_files, artifact_in};
 ghost use Rattle.artifact_reader.specs.Parts.{AreWell};
 ghost use Rattle.artifact_reader.specs.Cursors.{left_in, AreOn};
 ghost use Rattle.artifact_reader.specs.Artifacts.{IsReadingOf, HitLies, IsFew, OnHit, IsHitOf};

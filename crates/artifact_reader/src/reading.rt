@@ -1,5 +1,5 @@
 // Values at the front of parts.
-ghost use Rattle.std.specs.Prelude.{◌≡◌, ◌∷◌, [], IfOk};
+ghost use Rattle.std.specs.Prelude.{[], IfOk};
 ghost use Rattle.codes.specs.Codes.{read_bytes, read_word, read_str};
 ghost use Rattle.artifact_reader.specs.Parts.{AreWell, shown};
 ghost use Rattle.artifact_reader.specs.Cursors.{left_in};

@@ -1,7 +1,6 @@
 // Reading what was found.
-ghost use Rattle.std.specs.Prelude.{◌≡◌, ◌+◌, ◌++◌, List, ℕ, length, IfOk, IfErr, OnOk};
+ghost use Rattle.std.specs.Prelude.{◌≡◌, ◌+◌, ◌++◌, length, IfOk, IfErr, OnOk};
 ghost use Rattle.rel_path.specs.Causes.{Counts};
-ghost use Rattle.codes.specs.Codes.{Each};
 ghost use Rattle.cache_api.specs.Cache.{is_fault, IsFindErr};
 ghost use Rattle.record_log.specs.Frames.{text_of};
 ghost use Rattle.record_log.specs.Log.{device_of, frames_in};

@@ -1,5 +1,5 @@
 // Looking a key up.
-ghost use Rattle.std.specs.Prelude.{◌≡◌, ◌≤◌, ◌<◌, ◌+◌, [], List, ℕ, Option, None, length, get_or, if◌then◌else◌, IsTrue, IfOk, IfErr, IfSome};
+ghost use Rattle.std.specs.Prelude.{◌≡◌, ◌≤◌, ◌<◌, ◌+◌, [], Option, None, length, get_or, if◌then◌else◌, IsTrue, IfOk, IfErr, IfSome};
 ghost use Rattle.rel_path.specs.Causes.{Counts};
 ghost use Rattle.codes.specs.Views.{found_as};
 ghost use Rattle.store_dev.specs.Device.{OnlyReads};
@@ -10,8 +10,6 @@ ghost use Rattle.cache_api.specs.Keys.{text_of as key_text};
 ghost use Rattle.cache_api.specs.Reading.{artifact_in};
 ghost use Rattle.record_log.specs.Frames.{text_of};
 ghost use Rattle.record_log.specs.Log.{probes_of};
-ghost use Rattle.blob_pool.specs.Known.{known_in};
-ghost use Rattle.pair_frames.specs.Pairs.{pairs_in};
 ghost use Rattle.artifact_reader.specs.Parts.{shown_in};
 ghost use Rattle.pair_reader.specs.Frames.{cost_of as frame_cost, reads_of as frame_reads};
 ghost use Rattle.pair_reader.specs.Answers.{ReadsAtMost, HitIsWithin, places_of};

@@ -1,5 +1,5 @@
 // What is known of the frames of a store, and opening its device again by it.
-ghost use Rattle.std.specs.Prelude.{◌≡◌, ◌≤◌, ℕ, List, Some, length, take};
+ghost use Rattle.std.specs.Prelude.{◌≡◌, ◌≤◌, List, Some, length, take};
 ghost use Rattle.std.specs.Prelude.{IsTrue, IfOk, IfErr, OnOk};
 ghost use Rattle.rel_path.specs.Causes.{Counts};
 ghost use Rattle.cache_api.specs.Cache.{IsFindErr, is_fault as is_find_fault};

@@ -1,5 +1,5 @@
 // Pairs by number, and what one would take.
-ghost use Rattle.std.specs.Prelude.{◌≡◌, ◌≤◌, ◌<◌, [], length, get_or, IsTrue, IfOk, IfErr};
+ghost use Rattle.std.specs.Prelude.{◌≡◌, ◌≤◌, ◌<◌, [], get_or, IsTrue, IfOk, IfErr};
 ghost use Rattle.rel_path.specs.Causes.{Counts};
 ghost use Rattle.cache_api.specs.Artifacts.{artifact as held};
 ghost use Rattle.cache_api.specs.Cache.{CacheReads, StaysWhole, ample, is_fault, IsFindErr};

@@ -1,5 +1,5 @@
 // Adding pairs.
-ghost use Rattle.std.specs.Prelude.{◌≡◌, ◌⊎◌, ◌≤◌, ◌+◌, ◌-◌, ◌++◌, List, ℕ, true, length, IsTrue, IfOk, IfErr, OnOk, OnErr};
+ghost use Rattle.std.specs.Prelude.{◌≡◌, ◌⊎◌, ◌≤◌, ◌+◌, ◌-◌, ◌++◌, true, length, IsTrue, IfOk, IfErr, OnOk, OnErr};
 ghost use Rattle.rel_path.specs.Causes.{Counts};
 ghost use Rattle.cache_api.specs.Cache.{is_fault, IsFindErr, StaysWhole, ArePut};
 ghost use Rattle.cache_api.specs.Keys.{new_pairs};
@@ -10,7 +10,6 @@ ghost use Rattle.record_log.specs.Log.{device_of as log_device, frames_in, count
 ghost use Rattle.blob_pool.specs.Known.{Knows};
 ghost use Rattle.pair_frames.specs.Pairs.{pairs_in};
 ghost use Rattle.pair_frames.specs.Puts.{added};
-ghost use Rattle.pair_frames.specs.Laws.{AllPut};
 ghost use Rattle.pair_writer.specs.Staged.{entries, taken};
 ghost use Rattle.pair_index.specs.Index.{Indexes, lengths_in};
 

@@ -1,5 +1,5 @@
 // Digests of contents.
-ghost use Rattle.std.specs.Prelude.{◌≡◌, ◌<◌, List, ℕ, IfOk, IfErr};
+ghost use Rattle.std.specs.Prelude.{◌≡◌, ◌<◌, IfOk, IfErr};
 ghost use Rattle.sha2.specs.Sha256.{sha256};
 ghost use Rattle.record_log.specs.Kinds.{Entry};
 ghost use Rattle.record_log.specs.declared.kind.TheConstants.{CONTENT};

@@ -1,5 +1,5 @@
 // The contents of a log.
-ghost use Rattle.std.specs.Prelude.{◌≡◌, ◌⊎◌, ◌<◌, ◌≤◌, ◌+◌, ◌-◌, ◌++◌, ◌∷◌, [], List, ℕ, Some, length, get_or, bytes_eq, IsTrue, IsOk, IsErrOf, IfOk, IfErr, IfSome, OnOk, OnErr};
+ghost use Rattle.std.specs.Prelude.{◌≡◌, ◌⊎◌, ◌<◌, ◌≤◌, ◌+◌, ◌-◌, ◌++◌, ◌∷◌, [], Some, length, get_or, bytes_eq, IsTrue, IsOk, IsErrOf, IfOk, IfErr, IfSome, OnOk, OnErr};
 ghost use Rattle.rel_path.specs.Limits.{store_limit};
 ghost use Rattle.sha2.specs.Sha256.{sha256};
 ghost use Rattle.codes.specs.Views.{found_as};

@@ -1,8 +1,8 @@
 // An artifact from its text.
-ghost use Rattle.std.specs.Prelude.{◌≡◌, ◌∷◌, [], ℕ, List, Some, None, IsTrue, IfOk, IfSome};
+ghost use Rattle.std.specs.Prelude.{◌≡◌, [], Some, None, IsTrue, IfOk, IfSome};
 ghost use Rattle.codes.specs.Codes.{read_str, read_both, read_list, whole_of};
 ghost use Rattle.codes.specs.Views.{taken_by, found_as};
-ghost use Rattle.cache_api.specs.Artifacts.{File, artifact, ascends, ascends_from};
+ghost use Rattle.cache_api.specs.Artifacts.{artifact, ascends};
 ghost use Rattle.cache_api.specs.Reading.{path_in, read_path, read_file, read_files, artifact_in};
 ghost use Rattle.cache_api.specs.Memory.{OnlyMemory};
 

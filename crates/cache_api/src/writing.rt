@@ -1,8 +1,8 @@
 // The text of an artifact.
-ghost use Rattle.std.specs.Prelude.{◌≡◌, ◌++◌, ◌<◌, ◌^◌, ℕ, List, length, Some, IsTrue, IfOk, OnOk};
+ghost use Rattle.std.specs.Prelude.{◌≡◌, ◌++◌, ◌<◌, ◌^◌, length, Some, IsTrue, IfOk, OnOk};
 ghost use Rattle.codes.specs.Codes.{str, IsShort, word, items, list, Each};
 ghost use Rattle.listing.specs.KeyText.{path_text, path_code, file_code};
-ghost use Rattle.cache_api.specs.Artifacts.{File, FileFits, artifact, artifact_text, ascends};
+ghost use Rattle.cache_api.specs.Artifacts.{FileFits, artifact, artifact_text, ascends};
 ghost use Rattle.cache_api.specs.Reading.{artifact_in};
 ghost use Rattle.cache_api.specs.Memory.{OnlyMemory, capped};
 

@@ -1,6 +1,5 @@
 // Which files of a package are gone through.
 ghost use Rattle.std.specs.Prelude.{◌≡◌};
-ghost use Rattle.rel_path.specs.Paths.{path_eq};
 ghost use Rattle.capture.specs.Owned.{package_enters, own_choice, declared_choice};
 
 use globs::OutSet;

@@ -1,6 +1,6 @@
 // The stores that `--cache` names.
 ghost use Rattle.std.specs.Prelude.{◌≡◌};
-ghost use Rattle.cli_words.specs.Values.{local_rights, second_rights, access_of, one_store, two_stores, stores, access, if_puts, no_rights};
+ghost use Rattle.cli_words.specs.Values.{local_rights, second_rights, access_of, one_store, two_stores, stores, access};
 ghost use Rattle.cli_words.specs.Seen.{seen};
 
 use crate::Access;

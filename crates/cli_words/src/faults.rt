@@ -1,7 +1,7 @@
 // The first fault in items.
 ghost use Rattle.std.specs.Prelude.{◌≡◌, []};
-ghost use Rattle.cli_words.specs.Orders.{excludes, is_again, use_fault, fault_of, first_fault, fault_in};
-ghost use Rattle.cli_words.specs.Seen.{seen, item_seen, all_seen};
+ghost use Rattle.cli_words.specs.Orders.{excludes, is_again, fault_of, first_fault, fault_in};
+ghost use Rattle.cli_words.specs.Seen.{item_seen, all_seen};
 
 use crate::WordsErr;
 use crate::items::{Item, Placed};

@@ -1,5 +1,5 @@
 // What words ask for.
-ghost use Rattle.std.specs.Prelude.{◌≡◌, ◌≤◌, ◌^◌, length, IsErrOf};
+ghost use Rattle.std.specs.Prelude.{◌≤◌, ◌^◌, length, IsErrOf};
 ghost use Rattle.cli_words.specs.Orders.{order_of};
 ghost use Rattle.cli_words.specs.Answers.{Reads};
 

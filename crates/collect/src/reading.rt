@@ -1,5 +1,5 @@
 // Reading files.
-ghost use Rattle.std.specs.Prelude.{◌≡◌, ◌≤◌, ◌++◌, ◌&&◌, not, true, false, length, filter, zip, IfOk, OnOk};
+ghost use Rattle.std.specs.Prelude.{◌≡◌, ◌++◌, ◌&&◌, not, true, false, length, filter, zip, IfOk, OnOk};
 ghost use Rattle.std.specs.List.Sorted.{IsStrictlySortedBy};
 ghost use Rattle.rel_path.specs.Paths.{Path, is_among, path_cmp};
 ghost use Rattle.tree_dev.specs.Tree.{Looks};

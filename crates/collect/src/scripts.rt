@@ -1,5 +1,5 @@
 // The scripts of tasks.
-ghost use Rattle.std.specs.Prelude.{◌≡◌, ◌++◌, IfOk, OnOk, codes};
+ghost use Rattle.std.specs.Prelude.{◌≡◌, ◌++◌, IfOk};
 ghost use Rattle.std.specs.Option.{option_copied};
 ghost use Rattle.workspaces.specs.Edges.{text_by};
 ghost use Rattle.collect.specs.Parts.{scripts_of};

@@ -1,5 +1,5 @@
 // The definitions of the wanted tasks.
-ghost use Rattle.std.specs.Prelude.{◌≡◌, IfOk, IfSome};
+ghost use Rattle.std.specs.Prelude.{IfOk};
 ghost use Rattle.std.specs.List.{AllByRecursion};
 ghost use Rattle.collect.specs.Tasks.{IsDefined};
 ghost use Rattle.collect.specs.Listings.{ArePaired};

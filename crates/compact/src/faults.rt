@@ -1,6 +1,6 @@
 // What is answered for a device that was not opened.
 ghost use Rattle.std.specs.Prelude.{◌≡◌};
-ghost use Rattle.record_log.specs.Answers.{IsOpenErr, IsReadErr, IsAppendErr};
+ghost use Rattle.record_log.specs.Answers.{IsOpenErr, IsReadErr};
 ghost use Rattle.artifact_store.specs.Answers.{opens_as};
 ghost use Rattle.compact.specs.Answers.{as_first, as_spare, as_from, as_to, of_log};
 

@@ -1,15 +1,13 @@
 // A pair in memory.
-ghost use Rattle.std.specs.Prelude.{◌≡◌, ◌<◌, ◌≤◌, None, length, IsTrue, IfOk, IfErr, IfSome};
-ghost use Rattle.std.specs.Prelude.{IfNone, OnOk};
+ghost use Rattle.std.specs.Prelude.{◌≡◌, ◌<◌, None, IsTrue, IfOk, IfErr, IfSome};
+ghost use Rattle.std.specs.Prelude.{IfNone};
 ghost use Rattle.rel_path.specs.Causes.{Counts};
-ghost use Rattle.codes.specs.Codes.{AreBytes};
 ghost use Rattle.cache_api.specs.Artifacts.{artifact_text, artifact as parts};
 ghost use Rattle.cache_api.specs.Cache.{is_fault, IsFindErr, ample};
 ghost use Rattle.cache_api.specs.Memory.{capped, OnlyMemory};
 ghost use Rattle.cache_api.specs.Reading.{artifact_in};
 ghost use Rattle.pair_frames.specs.Laws.{AreTexts};
 ghost use Rattle.artifact_store.specs.Store.{state_of, count_in, OnlyReadsStore};
-ghost use Rattle.compact.specs.Chosen.{is_useful};
 ghost use Rattle.compact.specs.Picks.{pair_of, held_pair};
 
 use artifact_store::Store;

@@ -1,5 +1,5 @@
 // A print of a key that is found quickly.
-ghost use Rattle.std.specs.Prelude.{◌≡◌, List};
+ghost use Rattle.std.specs.Prelude.{◌≡◌};
 ghost use Rattle.compact.specs.Quick.{mixed, with_words, with_bytes, quick_print};
 
 /// An odd number whose bits look random.

@@ -1,5 +1,5 @@
 // Compacting a store into a spare one.
-ghost use Rattle.std.specs.Prelude.{◌≡◌, ◌+◌, [], length, List, ℕ, Err, IsTrue, IfOk, IfErr, OnOk};
+ghost use Rattle.std.specs.Prelude.{◌≡◌, ◌+◌, [], List, ℕ, Err, IsTrue, IfOk, IfErr, OnOk};
 ghost use Rattle.store_dev.specs.Device.{LeavesOnly};
 ghost use Rattle.artifact_store.specs.Store.{state_of, OnlyReadsStore};
 ghost use Rattle.compact.specs.declared.side.Side.{Side};

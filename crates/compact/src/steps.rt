@@ -1,5 +1,5 @@
 // The three steps in which a spare store is renewed. Each opens the device anew and hands it on.
-ghost use Rattle.std.specs.Prelude.{◌≡◌, ◌<◌, ◌^◌, [], All, IsTrue, IfOk, IfErr, OnOk};
+ghost use Rattle.std.specs.Prelude.{◌≡◌, ◌<◌, [], All, IsTrue, IfOk, IfErr};
 ghost use Rattle.rel_path.specs.Causes.{Counts};
 ghost use Rattle.store_dev.specs.Device.{LeavesOnly};
 ghost use Rattle.record_log.specs.Frames.{frames_of};

@@ -1,5 +1,5 @@
 // A run of the scheduler beside the plain one.
-ghost use Rattle.std.specs.Prelude.{◌≡◌, ◌<◌, ◌^◌, false, length, slice_index_or};
+ghost use Rattle.std.specs.Prelude.{◌≡◌, ◌<◌, false, slice_index_or};
 ghost use Rattle.run_core.specs.Core.{rules, has_command, Keeps};
 
 use crate::plain::Plain;

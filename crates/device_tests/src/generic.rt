@@ -1,5 +1,5 @@
 // Callers that know a device by its trait alone.
-ghost use Rattle.std.specs.Prelude.{◌≡◌, ◌==◌, ℕ, [], true, false, IfOk, OnOk, OnErr};
+ghost use Rattle.std.specs.Prelude.{◌≡◌, ◌==◌, [], true, false, IfOk, OnOk};
 ghost use Rattle.rel_path.specs.Paths.{Path};
 ghost use Rattle.rel_path.specs.Files.{file_at, over};
 ghost use Rattle.globs.specs.Outputs.{takes};

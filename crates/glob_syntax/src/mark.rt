@@ -1,5 +1,5 @@
 // The characters of a text, and which of them are quoted.
-ghost use Rattle.std.specs.Prelude.{◌≡◌, ◌+◌, ◌<◌, ◌^◌, ◌∷◌, [], IfOk, IfSome, IsUtf8, MatchOption, length, not, ◌&&◌, ◌==◌};
+ghost use Rattle.std.specs.Prelude.{◌≡◌, ◌+◌, ◌<◌, ◌^◌, ◌∷◌, [], IfOk, IfSome, IsUtf8, MatchOption, length, ◌&&◌, ◌==◌};
 ghost use Rattle.std.specs.Str.{chars};
 ghost use Rattle.glob_syntax.specs.Characters.{backslash};
 ghost use Rattle.glob_syntax.specs.Marks.{marks_of, is_plain, is_slash, NotQuoting};

@@ -1,5 +1,5 @@
 // Reading a text as a glob.
-ghost use Rattle.std.specs.Prelude.{◌≡◌, ◌+◌, ◌<◌, ◌^◌, length, IfOk, IfErr, None, MatchResult};
+ghost use Rattle.std.specs.Prelude.{◌≡◌, ◌+◌, ◌<◌, ◌^◌, length, IfOk, IfErr, None};
 ghost use Rattle.std.specs.Str.{chars};
 ghost use Rattle.glob_syntax.specs.Faults.{first_fault, earlier, place_of, pieces_in};
 ghost use Rattle.glob_syntax.specs.Reading.{fault_at, glob_from, MayRefuse};

@@ -1,6 +1,5 @@
 // Lists of globs.
 ghost use Rattle.std.specs.Prelude.{◌≡◌, ◌↔◌, ◌++◌, ◌∷◌, [], IsTrue, IfOk, IfErr, IsOkUnless, OnOk, OnErr, None};
-ghost use Rattle.std.specs.Str.{chars};
 ghost use Rattle.glob_syntax.specs.Reading.{MayRefuse};
 ghost use Rattle.globs.specs.declared.error.ListGlobErr.TheVariants.{OutOfMemory};
 ghost use Rattle.globs.specs.Lists.{fault_in, list_fault, MayRefuseList, IsRefusal, Takes, TakesWhole, list_takes, list_takes_whole};

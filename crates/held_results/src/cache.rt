@@ -7,7 +7,6 @@ use rel_path::Bytes;
 use std::alloc::Global;
 
 impl<C: Cache> Cache for Held<C> {
-    ghost use Rattle.std.specs.Prelude.{◌++◌};
     ghost use Rattle.held_results.specs.Held.{state_of, stores};
     ghost use Rattle.held_results.specs.Laws.{below_whole, held_within, held_rest, held_to_put};
 

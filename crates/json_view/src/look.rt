@@ -1,5 +1,5 @@
 // What the look-ups of a view share.
-ghost use Rattle.std.specs.Prelude.{◌≡◌, IfOk, map, string_bytes, IsOkUnless};
+ghost use Rattle.std.specs.Prelude.{◌≡◌, IfOk, map, string_bytes};
 ghost use Rattle.std.specs.BTreeMap.{keys};
 ghost use Rattle.std.specs.List.Sorted.{IsStrictlySortedBy};
 ghost use Rattle.std.specs.Cmp.Lexicographic.{slice_cmp};

@@ -1,7 +1,6 @@
 // Objects of texts.
 ghost use Rattle.std.specs.Prelude.{◌≡◌, Some, None, IfOk, IsOkUnless};
 ghost use Rattle.serde_json.specs.View.{view, members_view};
-ghost use Rattle.json_view.specs.Answer.{IsWrong};
 ghost use Rattle.json_view.specs.Pairs.{text_members, other_members, lesser, least_pointer, pairs_of, MayFail, AscendByName};
 
 use crate::look::wrong_kind;

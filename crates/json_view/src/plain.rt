@@ -1,6 +1,6 @@
 // JSON with comments and trailing commas.
-ghost use Rattle.std.specs.Prelude.{◌≡◌, ◌==◌, ◌||◌, IfOk, slice_index, length, IsOkUnless};
-ghost use Rattle.json_view.specs.Plain.{after, part_of, is_white, begins_block, is_between, is_closer, is_comma, kept_or_blank, AnswersPlain, KeepsPlaces};
+ghost use Rattle.std.specs.Prelude.{◌≡◌, ◌==◌, ◌||◌, IfOk, slice_index, IsOkUnless};
+ghost use Rattle.json_view.specs.Plain.{after, part_of, begins_block, is_between, is_closer, is_comma, kept_or_blank, AnswersPlain, KeepsPlaces};
 ghost use Rattle.json_view.specs.Waiting.{IsWithin, settled, Adds};
 
 use crate::JsonErr;

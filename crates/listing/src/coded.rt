@@ -1,6 +1,5 @@
 // Values with a code, and lists of them.
 ghost use Rattle.std.specs.Prelude.{◌≡◌, ◌++◌, ◌<◌, ◌^◌, ℕ, List, length, OnOk};
-ghost use Rattle.std.specs.List.{join_with_byte};
 ghost use Rattle.codes.specs.Codes.{word, IsWord, str, IsShort, list, IsList, items, Each, both, AreBoth};
 ghost use Rattle.listing.specs.KeyText.{path_text, path_code, PathFits};
 ghost use Rattle.listing.specs.Memory.{OnlyMemory, capped};

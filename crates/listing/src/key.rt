@@ -1,5 +1,5 @@
 // The key text of a listing.
-ghost use Rattle.std.specs.Prelude.{◌≡◌, ◌++◌, ℕ, length, codes, IfOk, OnOk};
+ghost use Rattle.std.specs.Prelude.{◌≡◌, ◌++◌, length, codes, IfOk, OnOk};
 ghost use Rattle.codes.specs.Codes.{Separates, list, IsList, AreBoth, IsShort};
 ghost use Rattle.listing.specs.KeyText as spec;
 ghost use Rattle.listing.specs.Memory.{OnlyMemory, capped};

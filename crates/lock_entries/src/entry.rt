@@ -1,5 +1,5 @@
 // What the lockfile says of one location.
-ghost use Rattle.std.specs.Prelude.{◌≡◌, ◌∷◌, ◌++◌, [], OnOk, OnErr, IsOkUnless};
+ghost use Rattle.std.specs.Prelude.{◌≡◌, ◌∷◌, ◌++◌, [], OnOk, OnErr};
 
 use rel_path::Text;
 use std::alloc::{AllocError, Global};

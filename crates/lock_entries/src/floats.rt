@@ -1,5 +1,5 @@
 // Numbers that no 64 bits hold: `serde_json` has them as floats.
-ghost use Rattle.std.specs.Prelude.{◌≡◌, ◌∷◌, [], IfOk, Some, None, decimal, string_bytes, IsOkUnless};
+ghost use Rattle.std.specs.Prelude.{◌≡◌, [], IfOk, Some, None, decimal, string_bytes, IsOkUnless};
 ghost use Rattle.serde_json.specs.View.{view, items_view, members_view};
 ghost use Rattle.serde_json.specs.Written.{has_float, items_have_float, members_have_float};
 ghost use Rattle.lock_entries.specs.Least.{lesser_by, least_by};

@@ -1,8 +1,7 @@
 // The entries of a lockfile's value, or why it is none.
-ghost use Rattle.std.specs.Prelude.{◌≡◌, ◌<◌, ◌^◌, length, Some, None, IfOk, MatchResult, option_map, codes};
+ghost use Rattle.std.specs.Prelude.{◌≡◌, ◌<◌, ◌^◌, length, Some, None, IfOk, MatchResult, option_map};
 ghost use Rattle.serde_json.specs.View.{view, members_view};
 ghost use Rattle.serde_json.specs.Find.{as_object};
-ghost use Rattle.json_view.specs.declared.error.Shape.TheVariants.{Object as an_object};
 ghost use Rattle.lock_entries.specs.Errors.{MayRefuse, Accepts};
 ghost use Rattle.lock_entries.specs.Entries.{entries_of, least_wrong};
 ghost use Rattle.lock_entries.specs.Least.{lesser_by};

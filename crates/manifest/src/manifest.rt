@@ -1,5 +1,5 @@
 // The manifest of the root or of a package.
-ghost use Rattle.std.specs.Prelude.{◌≡◌, ◌==◌, ◌&&◌, IfOk, MatchResult, None, nat_eq, bytes_eq, codes};
+ghost use Rattle.std.specs.Prelude.{◌≡◌, ◌==◌, ◌&&◌, IfOk, MatchResult, None};
 ghost use Rattle.std.specs.List.{list_any, starts_with};
 ghost use Rattle.json_view.specs.Answer.{data_of};
 ghost use Rattle.manifest.specs.Faults.{is_package_name, name_fault, manager_fault, given_fault};

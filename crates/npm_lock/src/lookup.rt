@@ -2,7 +2,7 @@
 ghost use Rattle.std.specs.Prelude.{◌≡◌, ◌<◌, ◌^◌, ◌++◌, length, map};
 ghost use Rattle.rel_path.specs.Paths.{name_cmp};
 ghost use Rattle.lock_entries.specs.Lockfile.{Ascend};
-ghost use Rattle.npm_lock.specs.Lookup.{is_modules, place_in, above, above_without_modules, number_of, first_number, found_number};
+ghost use Rattle.npm_lock.specs.Lookup.{is_modules, place_in, above_without_modules, number_of, first_number, found_number};
 
 use lock_entries::Entry;
 use std::cmp::Ordering;

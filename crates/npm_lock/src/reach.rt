@@ -1,5 +1,5 @@
 // The numbers that are reached from some numbers by what they find: a work list.
-ghost use Rattle.std.specs.Prelude.{◌≡◌, ◌<◌, ◌∷◌, ◌++◌, [], length, true, Some, None, IfOk, OnOk, slice_get, MatchOption};
+ghost use Rattle.std.specs.Prelude.{◌≡◌, ◌<◌, ◌∷◌, ◌++◌, [], length, true, Some, IfOk, OnOk, MatchOption};
 ghost use Rattle.npm_lock.specs.Reach.{mark, mark_all, AreBelow, AllBelow, HoldsItsFinds, IsReached, is_set};
 
 use crate::finds::Finds;

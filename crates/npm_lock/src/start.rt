@@ -1,5 +1,5 @@
 // Names that are looked up, and those that are missing.
-ghost use Rattle.std.specs.Prelude.{◌≡◌, ◌<◌, ◌^◌, [], length, map, None, IfOk, IsOkUnless};
+ghost use Rattle.std.specs.Prelude.{◌≡◌, ◌<◌, ◌^◌, [], length, map, None, IfOk};
 ghost use Rattle.std.specs.Ordering.{is_lt};
 ghost use Rattle.lock_entries.specs.Lockfile.{Ascend};
 ghost use Rattle.npm_lock.specs.Finds.{root_of};

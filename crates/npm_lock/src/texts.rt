@@ -1,5 +1,5 @@
 // The entries as `serde_json` writes them without blanks, each written once.
-ghost use Rattle.std.specs.Prelude.{◌≡◌, map, false, None, Some, IsSome, IfOk, codes};
+ghost use Rattle.std.specs.Prelude.{◌≡◌, false, None, Some, IsSome, IfOk, codes};
 ghost use Rattle.serde_json.specs.View.{view};
 ghost use Rattle.serde_json.specs.Find.{get};
 ghost use Rattle.serde_json.specs.Written.{has_float};

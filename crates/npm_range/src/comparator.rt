@@ -1,5 +1,4 @@
 // Operators, and numbers that may be left open.
-ghost use Rattle.std.specs.Prelude.{◌≡◌};
 
 /// How the versions that are asked for stand to the one that is written.
 #[derive(Clone, Copy, Debug, PartialEq, Eq)]

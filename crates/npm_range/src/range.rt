@@ -1,11 +1,10 @@
 // Reading ranges: words, sets of comparators, and sets between bars.
 ghost use Rattle.std.specs.Prelude.{◌≡◌, ◌==◌, ◌∷◌, [], None, Some, OnOk, IfOk, IfErr};
-ghost use Rattle.semver.specs.Identifiers.{pre_text};
 ghost use Rattle.npm_range.specs.Grammar as spec;
 ghost use Rattle.npm_range.specs.Limits.{admits, release_of, set_admits};
 ghost use Rattle.std.specs.List.{slice_split};
 ghost use Rattle.npm_range.specs.declared.characters.TheConstants.{TAB};
-ghost use Rattle.npm_range.specs.Reading.{Reads, reads_on};
+ghost use Rattle.npm_range.specs.Reading.{Reads};
 ghost use Rattle.npm_range.specs.Refusal.{MayRefuse};
 
 use crate::characters::{BAR, CARET, EQUALS, GREATER, LESS, SPACE, TAB, TILDE};

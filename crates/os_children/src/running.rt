@@ -1,7 +1,7 @@
 // A command that runs: its child, and what was read of its output.
-ghost use Rattle.std.specs.Prelude.{◌≡◌, ◌≤◌, ◌+◌, ◌++◌, length, false, Ok, IfOk, IfSome, IfNone, OnErr, max};
+ghost use Rattle.std.specs.Prelude.{◌≡◌, ◌≤◌, ◌+◌, ◌++◌, length, false, Ok, IfOk, IfSome, IfNone, max};
 ghost use Rattle.std.specs.Io.{StartsWith, appended_bytes};
-ghost use Rattle.std.specs.Io.KnownBytes.{Consumes, IsAtEnd};
+ghost use Rattle.std.specs.Io.KnownBytes.{Consumes};
 ghost use Rattle.rel_path.specs.Limits.{log_limit};
 
 use crate::ends::{ChildEnd, child_end};

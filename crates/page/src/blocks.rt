@@ -1,6 +1,6 @@
 // The lines of a task that was looked up or ran.
 ghost use Rattle.std.specs.Prelude.{◌≡◌, ◌++◌, ◌∷◌, ◌<◌, length, position, IfOk, OnOk, string_bytes, IsOkUnless};
-ghost use Rattle.page.specs.Blocks.{lines_shown, is_failure, front_of, mark_words, mark_line, is_newline, lines_of, log_lines, failure_line, note_line, block_text};
+ghost use Rattle.page.specs.Blocks.{lines_shown, front_of, mark_words, mark_line, is_newline, lines_of, log_lines, failure_line, note_line, block_text};
 
 use crate::PageErr;
 use rel_path::{Bytes, RelPath, Text};

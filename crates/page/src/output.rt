@@ -1,5 +1,4 @@
 // What is put into the output.
-ghost use Rattle.std.specs.Prelude.{◌≡◌};
 ghost use Rattle.page.specs.Answers.{Emits, HasCause};
 
 use crate::PageErr;

@@ -72,8 +72,7 @@ fn texts<'a>(alloc: Global, keys: &'a [KeyText]) -> Result<Vec<&'a [u8]>, AllocE
 }
 
 impl Batch {
-    ghost use Rattle.std.specs.Prelude.{◌++◌, ◌∷◌, [], ℕ, List};
-    ghost use Rattle.record_log.specs.Kinds.{Entry};
+    ghost use Rattle.std.specs.Prelude.{◌++◌, ◌∷◌, [], ℕ};
     ghost use Rattle.pair_reader.specs.declared.wanted.Lengths.{Lengths};
 
     /// Of no frames, where that one is the next.

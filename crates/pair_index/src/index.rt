@@ -1,5 +1,5 @@
 // Which pair stands in which frame.
-ghost use Rattle.std.specs.Prelude.{◌≡◌, ◌≤◌, ◌<◌, ◌+◌, ◌^◌, ◌++◌, ◌∷◌, [], ℕ, List, length, take, slice_get, true, IsTrue, IsOk, IfOk, IfErr, OnOk};
+ghost use Rattle.std.specs.Prelude.{◌≡◌, ◌≤◌, ◌<◌, ◌+◌, ◌^◌, ◌++◌, [], ℕ, List, length, take, slice_get, IsTrue, IsOk, IfOk, IfErr, OnOk};
 
 use crate::batch::Batch;
 use crate::keys::Keys;

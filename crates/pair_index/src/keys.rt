@@ -1,5 +1,5 @@
 // The keys of pairs.
-ghost use Rattle.std.specs.Prelude.{◌≡◌, ◌≤◌, ◌<◌, ◌+◌, ◌++◌, ◌∷◌, [], ℕ, List, length, map, get_or, true, IsOk, OnOk};
+ghost use Rattle.std.specs.Prelude.{◌≡◌, ◌≤◌, ◌<◌, ◌+◌, ◌++◌, ◌∷◌, [], List, length, map, true, IsOk, OnOk};
 ghost use Rattle.sha2.specs.Sha256.{sha256};
 ghost use Rattle.pair_reader.specs.Answers.{Ascend, Rise, is_one_of, print_where};
 ghost use Rattle.pair_index.specs.Lengths.{listed};
@@ -22,7 +22,6 @@ pub struct Keys {
 }
 
 impl Keys {
-    ghost use Rattle.cache_api.specs.Memory.{capped};
     ghost use Rattle.cache_api.specs.Pairs.{Pair, chosen};
     ghost use Rattle.cache_api.specs.Keys.{text_of, new_pairs};
     ghost use Rattle.pair_index.specs.Keys.{lens_in, numbers_in, prints_in, number_where, listed_print, hash_room};

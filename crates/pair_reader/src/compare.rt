@@ -1,5 +1,5 @@
 // Pieces that are compared with bytes.
-ghost use Rattle.std.specs.Prelude.{◌≡◌, ◌<◌, ◌≤◌, ◌-◌, ◌^◌, ◌++◌, ◌∷◌, [], List, ℕ, min, length, bytes_eq, IfOk, IfErr, OnOk};
+ghost use Rattle.std.specs.Prelude.{◌≡◌, ◌<◌, ◌-◌, ◌∷◌, [], length, bytes_eq, IfOk, IfErr};
 ghost use Rattle.rel_path.specs.Causes.{Counts};
 ghost use Rattle.cache_api.specs.Cache.{is_fault, IsFindErr};
 ghost use Rattle.record_log.specs.Frames.{text_of};

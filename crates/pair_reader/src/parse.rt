@@ -1,5 +1,5 @@
 // The pieces in a frame.
-ghost use Rattle.std.specs.Prelude.{◌≡◌, ◌<◌, ◌∷◌, [], List, ℕ, length, IfOk, IfSome};
+ghost use Rattle.std.specs.Prelude.{◌≡◌, ◌<◌, ◌∷◌, [], List, ℕ, IfOk, IfSome};
 ghost use Rattle.codes.specs.Codes.{took};
 ghost use Rattle.cache_api.specs.Memory.{OnlyMemory};
 ghost use Rattle.record_log.specs.Frames.{IsAt, text_of};

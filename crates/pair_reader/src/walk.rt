@@ -1,15 +1,14 @@
 // Going over pieces.
-ghost use Rattle.std.specs.Prelude.{◌≡◌, ◌<◌, ◌≤◌, ◌-◌, ◌^◌, ◌++◌, ◌∷◌, [], List, ℕ, min, length, bytes_eq, IfOk, IfErr, OnOk};
+ghost use Rattle.std.specs.Prelude.{◌≡◌, ◌<◌, ◌-◌, ◌^◌, ◌++◌, ◌∷◌, [], List, ℕ, min, length, IfOk, IfErr, OnOk};
 ghost use Rattle.rel_path.specs.Causes.{Counts};
 ghost use Rattle.cache_api.specs.Cache.{is_fault, IsFindErr};
-ghost use Rattle.record_log.specs.Frames.{text_of};
-ghost use Rattle.record_log.specs.Log.{device_of, frames_in};
+ghost use Rattle.record_log.specs.Log.{device_of};
 ghost use Rattle.blob_pool.specs.Contents.{contents_of};
 ghost use Rattle.blob_pool.specs.Known.{Knows, OnlyReadsLog, known_in, count_in};
 ghost use Rattle.pair_frames.specs.Pairs.{piece_bytes};
 ghost use Rattle.pair_reader.specs.Frames.{contents_among};
-ghost use Rattle.pair_reader.specs.Standing.{piece_of, pieces_of, bytes_of, IsThere, AreThere, Shows, AllShow};
-ghost use Rattle.pair_reader.specs.Answers.{ReadsAtMost, IsRest};
+ghost use Rattle.pair_reader.specs.Standing.{piece_of, pieces_of, bytes_of, IsThere, AreThere, AllShow};
+ghost use Rattle.pair_reader.specs.Answers.{ReadsAtMost};
 
 use crate::calls::add_content;
 use crate::piece::PieceAt;

@@ -1,5 +1,5 @@
 // What is known of a run before a file is read.
-ghost use Rattle.std.specs.Prelude.{◌≡◌, ◌<◌, ◌^◌, true, length, IfOk, IfErr, MatchResult};
+ghost use Rattle.std.specs.Prelude.{◌≡◌, ◌<◌, ◌^◌, true, length, IfOk, IfErr};
 ghost use Rattle.std.specs.List.{AllByRecursion};
 ghost use Rattle.task_graph.specs.Tasks.{has_def};
 ghost use Rattle.repository.specs.Reading.{contents_of};

@@ -1,8 +1,7 @@
 // Orders to prune.
-ghost use Rattle.std.specs.Prelude.{◌≡◌, ◌++◌, ◌≤◌, ℕ, false};
+ghost use Rattle.std.specs.Prelude.{◌≡◌, ◌++◌, ℕ, false};
 ghost use Rattle.tree_dev.specs.Tree.{Keeps};
 ghost use Rattle.refusals.specs.Refusals.{line_of, refusal_text};
-ghost use Rattle.repository.specs.Reading.{contents_of};
 ghost use Rattle.rel_path.specs.Paths.{Path};
 ghost use Rattle.prune.specs.Cause.{counts_of};
 ghost use Rattle.answers.specs.Answers.{IfDone, IfRefused, IsNothingBut, HasCauseIn};

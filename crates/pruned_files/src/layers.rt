@@ -1,5 +1,5 @@
 // The files that an installation needs.
-ghost use Rattle.std.specs.Prelude.{◌≡◌, List, length, filter, IfOk};
+ghost use Rattle.std.specs.Prelude.{◌≡◌, List, length, IfOk};
 ghost use Rattle.std.specs.List.{list_any};
 ghost use Rattle.rel_path.specs.Paths.{path_eq};
 ghost use Rattle.listing.specs.Memory.{OnlyMemory};

@@ -1,5 +1,5 @@
 // Opening a device as a log.
-ghost use Rattle.std.specs.Prelude.{◌==◌, [], get_or, ◌≡◌, ◌≤◌, ◌<◌, ◌^◌, ◌+◌, ◌-◌, List, ℕ, length, take, OnOk, IfOk, IfErr};
+ghost use Rattle.std.specs.Prelude.{◌==◌, [], get_or, ◌≡◌, ◌<◌, ◌+◌, ◌-◌, List, ℕ, length, take, OnOk, IfOk, IfErr};
 ghost use Rattle.std.specs.Str.{bytes_eq};
 ghost use Rattle.store_dev.specs.Device.{Only, OnlyReads, LeavesOnly};
 ghost use Rattle.record_log.specs.Frames.{frames_of, reading, magic, IsOpenedAs, IsSound, ReadsAsOneOf, ReadsAsOneOrNone};

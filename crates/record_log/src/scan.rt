@@ -1,5 +1,5 @@
 // Going over the frames of a device.
-ghost use Rattle.std.specs.Prelude.{◌≡◌, ◌≤◌, ◌<◌, ◌^◌, ◌+◌, ◌-◌, List, ℕ, true, [], length, take, drop, OnOk, IfOk, IfErr};
+ghost use Rattle.std.specs.Prelude.{◌≡◌, ◌≤◌, ◌<◌, ◌+◌, ◌-◌, List, true, [], length, take, drop, IfOk, IfErr};
 ghost use Rattle.store_dev.specs.Device.{OnlyReads};
 ghost use Rattle.record_log.specs.Kinds.{Entry, lens_fit, value_fits, generation_after};
 ghost use Rattle.record_log.specs.Frames.{frames_of, reading, AtRest};

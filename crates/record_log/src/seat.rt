@@ -1,5 +1,5 @@
 // Where a frame stands in a device.
-ghost use Rattle.std.specs.Prelude.{true, ◌≡◌, ◌<◌, ◌≤◌, ◌^◌, ◌+◌, List, ℕ, min, length, take, drop, IfSome, IfNone};
+ghost use Rattle.std.specs.Prelude.{true, ◌≡◌, ◌<◌, ◌≤◌, List, ℕ, min, length, drop, IfSome, IfNone};
 ghost use Rattle.record_log.specs.Kinds.{Entry, lens_fit, frame_at};
 ghost use Rattle.record_log.specs.Seats.{IsFront, IsLaid, seat_size};
 

@@ -1,5 +1,5 @@
 // What opening and appending do to a device.
-ghost use Rattle.std.specs.Prelude.{◌≡◌, ◌≢◌, ◌≤◌, ◌<◌, ◌^◌, ◌+◌, ◌++◌, List, ℕ, true, [], ◌∷◌, length, OnOk, IsErrOf};
+ghost use Rattle.std.specs.Prelude.{◌≡◌, ◌≤◌, ◌<◌, ◌^◌, ◌+◌, ◌++◌, true, [], length, OnOk, IsErrOf};
 ghost use Rattle.rel_path.specs.Causes.{Counts};
 ghost use Rattle.store_dev.specs.Device.{Holds, Only, Torn, Elapses, LeavesOnly, SameWith, After};
 ghost use Rattle.store_dev.specs.Errors.{is_fault};

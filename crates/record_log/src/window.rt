@@ -1,5 +1,5 @@
 // A device read in blocks.
-ghost use Rattle.std.specs.Prelude.{true, ◌≡◌, ◌≤◌, ◌<◌, ◌↔◌, ◌+◌, ◌-◌, ◌^◌, List, ℕ, min, length, take, drop, get_or, IfOk, IfErr, OnOk, IfSome, IfNone, IsTrue};
+ghost use Rattle.std.specs.Prelude.{true, ◌≡◌, ◌<◌, ◌↔◌, ◌+◌, ◌-◌, List, ℕ, min, length, drop, get_or, IfOk, IfErr, OnOk, IfSome, IfNone, IsTrue};
 ghost use Rattle.store_dev.specs.Device.{OnlyReads};
 ghost use Rattle.record_log.specs.Kinds.{Entry, lens_fit, frame_at};
 ghost use Rattle.record_log.specs.Answers.{Counted, IsReadErr};

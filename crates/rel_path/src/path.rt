@@ -1,6 +1,6 @@
 // A path below the root folder.
 ghost use Rattle.std.specs.Prelude.{◌≡◌, ◌≢◌, ◌↔◌, ◌++◌, ◌∷◌, [], ℕ, List, IsTrue, IfOk, IfErr, Some, None, Option, nat_eq};
-ghost use Rattle.std.specs.List.{join_with_byte, list_any, list_all};
+ghost use Rattle.std.specs.List.{join_with_byte, list_any};
 ghost use Rattle.std.specs.Cmp.{partial_equiv_from_equiv};
 ghost use Rattle.std.specs.Cmp.Lexicographic.{slice_cmp, slice_partial_cmp, pointwise, nat_list_cmp_total, nat_list_eq_equiv, lists_total, lists_equiv, lists_ties, lists_po, lists_agrees, texts_ties, texts_po};
 ghost use Rattle.std.specs.Ordering.{nat_cmp};

@@ -18,7 +18,7 @@ pub struct Part<S: StoreDevice> {
 }
 
 impl<S: StoreDevice> Part<S> {
-    ghost use Rattle.std.specs.Prelude.{[], ◌+◌, ◌^◌, ◌<◌, true, false, IfOk, IfSome, OnOk};
+    ghost use Rattle.std.specs.Prelude.{[], ◌+◌, ◌^◌, ◌<◌, true, false, IfOk, IfSome};
     ghost use Rattle.codes.specs.Views.{found_as};
     ghost use Rattle.cache_api.specs.Cache.{ample};
     ghost use Rattle.cache_api.specs.Found.{found};

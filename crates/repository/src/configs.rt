@@ -1,11 +1,10 @@
 // The turbo.json files of a repository, read.
-ghost use Rattle.std.specs.Prelude.{◌≡◌, ◌++◌, map, ◌∷◌, [], ℕ, List, false, IfOk, OnOk};
-ghost use Rattle.std.specs.List.{flat_map};
+ghost use Rattle.std.specs.Prelude.{◌≡◌, ◌++◌, map, [], false, IfOk, OnOk};
 ghost use Rattle.rel_path.specs.Paths.{Path};
 ghost use Rattle.tree_dev.specs.Tree.{Looks};
 ghost use Rattle.turbo_config.specs.Files.{root_of, package_of};
 ghost use Rattle.refusals.specs.Stops.{HasCause, OnlyMemory};
-ghost use Rattle.repository.specs.Reading.{config_in, config_at, root_config, package_config, package_configs, homes_of, own_configs, script_names, setup_in};
+ghost use Rattle.repository.specs.Reading.{config_at, root_config, package_config, package_configs, homes_of, own_configs, script_names, setup_in};
 ghost use Rattle.repository.specs.Answers.{Answers, AnswersAs, config_stop, named};
 
 use refusals::{Refusal, Stop};

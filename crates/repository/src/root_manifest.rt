@@ -1,5 +1,5 @@
 // The root manifest, read.
-ghost use Rattle.std.specs.Prelude.{◌≡◌, ◌++◌, ◌∷◌, [], false, IfOk};
+ghost use Rattle.std.specs.Prelude.{◌≡◌, [], false, IfOk};
 ghost use Rattle.rel_path.specs.Paths.{Path};
 ghost use Rattle.tree_dev.specs.Tree.{Looks};
 ghost use Rattle.manifest.specs.Manifest.{AreAscending};

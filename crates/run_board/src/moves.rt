@@ -1,5 +1,5 @@
 // How the tables of a run change.
-ghost use Rattle.std.specs.Prelude.{◌≡◌, ◌<◌, ◌+◌, ◌==◌, ◌&&◌, [], true, false, length, Some, None, IfOk};
+ghost use Rattle.std.specs.Prelude.{◌≡◌, ◌<◌, ◌+◌, ◌==◌, ◌&&◌, [], true, length, Some, None, IfOk};
 ghost use Rattle.std.specs.List.{list_all};
 ghost use Rattle.page.specs.declared.blocks.Mark.TheVariants as printed_mark;
 ghost use Rattle.page.specs.declared.blocks.Note.TheVariants as printed_note;

@@ -1,7 +1,6 @@
 // The page of a run, as it comes.
 ghost use Rattle.std.specs.Prelude.{◌≡◌, ◌+◌, ◌<◌, ◌&&◌, ◌++◌, ℕ, List, length, nat_lt, OnOk, IfErr};
 ghost use Rattle.run_core.specs.Core.{states};
-ghost use Rattle.run_plan.specs.Answers.{IsPrompt};
 ghost use Rattle.run_plan.specs.Openings.{Opening};
 ghost use Rattle.run_plan.specs.Pages.{IsCut};
 ghost use Rattle.run_plan.specs.Plans.{IsValidPlan};

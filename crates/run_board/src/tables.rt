@@ -1,5 +1,5 @@
 // Tables of logs, flags and fingerprints, with room for each task of a plan.
-ghost use Rattle.std.specs.Prelude.{◌≡◌, ◌<◌, ◌^◌, ℕ, [], false, length, None, IfOk};
+ghost use Rattle.std.specs.Prelude.{◌≡◌, ◌<◌, ℕ, [], false, length, None, IfOk};
 ghost use Rattle.spawn_dev.specs.Spawn.{put_at};
 ghost use Rattle.task_devices.specs.Stops.{OnlyMemory};
 ghost use Rattle.run_board.specs.Tables.{log_in, flag_in, fingerprint_in};

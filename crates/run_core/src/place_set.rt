@@ -1,5 +1,5 @@
 // A set of places whose least member is found without looking at all places.
-ghost use Rattle.std.specs.Prelude.{◌≡◌, ◌≢◌, ◌+◌, ◌*◌, ◌/◌, ◌%◌, ◌^◌, ◌<◌, ◌≤◌, ◌||◌, ℕ, false, true, length, ◌==◌, if◌then◌else◌, IfOk, MatchOption};
+ghost use Rattle.std.specs.Prelude.{◌≡◌, ◌≢◌, ◌+◌, ◌*◌, ◌/◌, ◌%◌, ◌^◌, ◌<◌, ◌≤◌, ◌||◌, ℕ, false, length, ◌==◌, if◌then◌else◌, IfOk, MatchOption};
 ghost use Rattle.run_core.specs.Sets.{has, IsLeast};
 ghost use Rattle.run_core.specs.Trees.{flag, AreRight, IsRight, IsPower};
 

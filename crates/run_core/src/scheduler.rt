@@ -1,5 +1,5 @@
 // The scheduler.
-ghost use Rattle.std.specs.Prelude.{◌≡◌, ◌<◌, ◌^◌, ◌==◌, ◌&&◌, ◌↔◌, ℕ, IsTrue, true, false, length, nat_lt, slice_index_or, IfOk, if◌then◌else◌};
+ghost use Rattle.std.specs.Prelude.{◌≡◌, ◌<◌, ◌^◌, ◌==◌, ◌&&◌, ◌↔◌, ℕ, IsTrue, true, false, length, slice_index_or, IfOk, if◌then◌else◌};
 ghost use Rattle.run_core.specs.Greedy.{serves, stops};
 ghost use Rattle.run_core.specs.Machine.{next as next_of, put, after_end, has_stopped, is_missed, least, runs, start_or_wait, wait_or_end, IsCalm};
 ghost use Rattle.run_core.specs.Core.{IsTopological, rules, rules_in, states, states_in, has_command, Keeps};

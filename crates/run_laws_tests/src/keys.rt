@@ -1,7 +1,7 @@
 // The closure of a task as a plain program. It is slow, and it is the definition.
 ghost use Rattle.std.specs.Prelude.{◌≡◌, ◌≤◌, ◌++◌, ◌∷◌, [], map, filter, IfOk, OnOk};
 ghost use Rattle.run_laws.specs.Picks.{rank};
-ghost use Rattle.run_laws.specs.Closures.{names, renumbered, sub_parts, in_closure, closure};
+ghost use Rattle.run_laws.specs.Closures.{names, renumbered, in_closure, closure};
 ghost use Rattle.run_laws_tests.specs.Walks.{parts_from};
 
 use crate::program::{has_input, is_above};

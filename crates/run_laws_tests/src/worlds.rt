@@ -1,5 +1,5 @@
 // What a run does to files, as plain programs.
-ghost use Rattle.std.specs.Prelude.{◌≡◌, ◌++◌, ◌∷◌, [], not, List, filter, IfOk, OnOk};
+ghost use Rattle.std.specs.Prelude.{◌≡◌, ◌++◌, [], not, filter, IfOk, OnOk};
 ghost use Rattle.rel_path.specs.Paths.{Path};
 ghost use Rattle.rel_path.specs.Files.{file_at, over};
 ghost use Rattle.globs.specs.Outputs.{takes};

@@ -1,10 +1,8 @@
 // The page of a run, by its reports.
 ghost use Rattle.std.specs.Prelude.{◌≡◌, ◌++◌, ◌∷◌, [], ◌<◌, length, IfOk, OnOk};
 ghost use Rattle.std.specs.Option.{option_map};
-ghost use Rattle.run_core.specs.Greedy.{count_below};
-ghost use Rattle.run_laws.specs.Ancestors.{part_at, has_script};
 ghost use Rattle.run_plan.specs.Memory.{OnlyMemory};
-ghost use Rattle.run_plan.specs.Plans.{IsValidPlan, id_at};
+ghost use Rattle.run_plan.specs.Plans.{IsValidPlan};
 ghost use Rattle.run_plan.specs.Pages.{block_of, script_count};
 ghost use Rattle.run_plan.specs.Reports.{report_in, failed, failed_by, summary_by};
 

@@ -1,5 +1,5 @@
 // What is to be said of each task of a plan.
-ghost use Rattle.std.specs.Prelude.{◌≡◌, ◌<◌, ◌^◌, ℕ, length, IfOk, None, Some};
+ghost use Rattle.std.specs.Prelude.{◌≡◌, ◌<◌, ◌^◌, length, IfOk, None, Some};
 ghost use Rattle.std.specs.Option.{option_map};
 ghost use Rattle.run_core.specs.Greedy.{count_below};
 ghost use Rattle.spawn_dev.specs.Spawn.{put_at};

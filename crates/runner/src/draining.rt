@@ -1,5 +1,5 @@
 // Waiting for what still runs.
-ghost use Rattle.std.specs.Prelude.{◌≡◌, ◌≤◌, ℕ, List, true, false};
+ghost use Rattle.std.specs.Prelude.{◌≡◌, ◌≤◌, ℕ, List};
 ghost use Rattle.cache_api.specs.Pairs.{Pair};
 ghost use Rattle.spawn_dev.specs.Spawn.{IsIdle};
 ghost use Rattle.run_plan.specs.Openings.{Opening};

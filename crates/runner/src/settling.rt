@@ -1,5 +1,5 @@
 // When what is due is put: before a look-up that may need it, before a wait, and when the run ends.
-ghost use Rattle.std.specs.Prelude.{◌≡◌, ◌⊎◌, ◌≤◌, IsTrue, OnOk};
+ghost use Rattle.std.specs.Prelude.{◌≡◌, ◌⊎◌, IsTrue, OnOk};
 ghost use Rattle.cache_api.specs.Cache.{AllLast, due_in};
 ghost use Rattle.cache_api.specs.Keys.{text_of};
 ghost use Rattle.cache_api.specs.Pairs.{LacksKey};

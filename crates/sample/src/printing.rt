@@ -1,5 +1,5 @@
 // The sample as it is printed.
-ghost use Rattle.std.specs.Prelude.{◌≡◌, IfOk, IfErr, OnOk, IsOkUnless, string_bytes};
+ghost use Rattle.std.specs.Prelude.{IfOk, IfErr, OnOk, IsOkUnless, string_bytes};
 ghost use Rattle.page.specs.Answers.{HasCause};
 ghost use Rattle.sample_repository.specs.Repository.{IsSize};
 ghost use Rattle.sample.specs.Lines.{

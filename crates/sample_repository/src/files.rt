@@ -1,5 +1,5 @@
 // The files of the repository.
-ghost use Rattle.std.specs.Prelude.{◌≡◌, ◌<◌, ◌^◌, ◌++◌, ◌∷◌, [], IfOk, OnOk, OnErr};
+ghost use Rattle.std.specs.Prelude.{◌≡◌, ◌<◌, ◌^◌, ◌++◌, ◌∷◌, [], IfOk, OnOk};
 ghost use Rattle.std.specs.Prelude.{IsOkUnless, IsTrue, string_bytes};
 ghost use Rattle.rel_path.specs.Paths.{is_component};
 ghost use Rattle.sample_repository.specs.Repository.{

@@ -1,5 +1,5 @@
 // The repository as a world in memory.
-ghost use Rattle.std.specs.Prelude.{◌≡◌, IfOk, IsOkUnless};
+ghost use Rattle.std.specs.Prelude.{IfOk, IsOkUnless};
 ghost use Rattle.rel_path.specs.Files.{file_at};
 ghost use Rattle.sample_repository.specs.Changes.{changed_at};
 ghost use Rattle.sample_repository.specs.Repository.{IsSize, sample_files, source_path};

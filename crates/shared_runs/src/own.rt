@@ -1,5 +1,5 @@
 // The numbers of the pairs that a run puts itself.
-ghost use Rattle.std.specs.Prelude.{◌≡◌, ◌+◌, ◌<◌, ◌++◌, ◌∷◌, [], length, IfOk, IfErr, OnOk, OnErr};
+ghost use Rattle.std.specs.Prelude.{◌≡◌, ◌+◌, ◌<◌, ◌++◌, [], IfOk, IfErr};
 ghost use Rattle.std.specs.List.{All};
 ghost use Rattle.cache_api.specs.declared.error.CacheErr.TheVariants.{OutOfMemory};
 ghost use Rattle.shared_runs.specs.Own.{numbers_on, stored_in};

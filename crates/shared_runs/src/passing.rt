@@ -1,5 +1,5 @@
 // Taking a turn with a store, and giving it back.
-ghost use Rattle.std.specs.Prelude.{◌≡◌, ◌≤◌, ◌+◌, ◌-◌, ◌^◌, true, false, IfOk, IfErr, OnOk};
+ghost use Rattle.std.specs.Prelude.{◌≡◌, ◌≤◌, ◌+◌, ◌-◌, true, false, IfOk, IfErr, OnOk};
 ghost use Rattle.std.specs.Prelude.{OnErr};
 ghost use Rattle.rel_path.specs.Causes.{Counts, Rose};
 ghost use Rattle.cache_api.specs.Cache.{IsFindErr, is_fault as is_cache_fault};

@@ -1,6 +1,4 @@
 // Filling a store, and asking it.
-ghost use Rattle.std.specs.Prelude.{IsTrue, OnOk};
-ghost use Rattle.artifact_store.specs.Store.{state_of};
 
 use crate::results::{artifact_of, key_of};
 use anyhow::{Result, anyhow, bail};

@@ -1,5 +1,5 @@
 // Frames that are appended together beside as many one by one, and a log of many frames opened again.
-ghost use Rattle.std.specs.Prelude.{◌≡◌, ◌<◌, ◌^◌, IsTrue, OnOk, length};
+ghost use Rattle.std.specs.Prelude.{◌<◌, ◌^◌, IsTrue, OnOk, length};
 ghost use Rattle.record_log.specs.Log.{is_whole};
 
 use crate::logs::{KEY, fill};

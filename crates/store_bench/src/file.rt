@@ -1,5 +1,5 @@
 // A file as a store's device. It tells nothing of its bytes, and is not locked.
-ghost use Rattle.std.specs.Prelude.{◌≡◌, ◌≤◌, ℕ, [], IfErr, IsOk};
+ghost use Rattle.std.specs.Prelude.{[]};
 ghost use Rattle.rel_path.specs.Causes.{Counts};
 ghost use Rattle.store_dev.specs.Errors.{is_fault, OnlyFails};
 

@@ -1,6 +1,6 @@
 // How fast a log is appended to and opened, over memory and over a file, and what it writes for what it is given.
-ghost use Rattle.std.specs.Prelude.{◌≡◌, ◌+◌, ◌<◌, ◌^◌, IsTrue, OnOk, length};
-ghost use Rattle.record_log.specs.Log.{is_whole, count_of};
+ghost use Rattle.std.specs.Prelude.{◌+◌, ◌<◌, ◌^◌, IsTrue, OnOk, length};
+ghost use Rattle.record_log.specs.Log.{is_whole};
 
 use crate::batches::{bench_batch, bench_opening};
 use crate::file::{FileStore, file_at};

@@ -1,10 +1,10 @@
 // A device in memory. It keeps a record of its writes and syncs.
-ghost use Rattle.std.specs.Prelude.{true, false, ◌≡◌, ◌↔◌, ◌-◌, IsTrue, ◌<◌, ◌≤◌, ◌+◌, ◌^◌, [], ◌∷◌, ◌++◌, List, ℕ, take, drop, length, min, IfOk, IfErr, OnOk, OnErr, IsErrOf, vec_len, vec_capacity};
+ghost use Rattle.std.specs.Prelude.{true, false, ◌≡◌, ◌↔◌, ◌-◌, IsTrue, ◌<◌, ◌≤◌, ◌+◌, ◌^◌, [], take, drop, length, min, IfOk, IfErr, OnOk, OnErr, IsErrOf, vec_len, vec_capacity};
 ghost use Rattle.std.specs.List.{Contains};
 ghost use Rattle.rel_path.specs.Causes.{Rose, Counts};
 ghost use Rattle.store_dev.specs.Device.{AreBytes, put_at, Holds, Torn, Only, SameWith, Follows, Elapses, OnlyReads};
 ghost use Rattle.store_dev.specs.Errors.{is_fault, OnlyFails};
-ghost use Rattle.store_dev.specs.Memory.{origin, after, synced, filled, settled, crash_of, ImagesFrom, SinceFrom};
+ghost use Rattle.store_dev.specs.Memory.{origin, after, synced, filled, settled, crash_of};
 ghost use Rattle.store_dev.specs.Record.{reads_as_one, counts, only};
 
 use crate::step::Step;

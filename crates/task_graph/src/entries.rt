@@ -1,5 +1,5 @@
 // The tasks that the words of a command line name.
-ghost use Rattle.std.specs.Prelude.{◌≡◌, ◌++◌, ◌⊎◌, not, length, MatchResult, IfOk, OnOk, Ok, Err};
+ghost use Rattle.std.specs.Prelude.{◌≡◌, ◌++◌, ◌⊎◌, not, length, MatchResult, IfOk, Ok, Err};
 ghost use Rattle.std.specs.Bool.{OnTrue};
 ghost use Rattle.std.specs.List.Sorted.{IsStrictlySortedBy};
 ghost use Rattle.rel_path.specs.Paths.{name_cmp};

@@ -1,5 +1,5 @@
 // The tasks that a graph has.
-ghost use Rattle.std.specs.Prelude.{◌≡◌, ◌++◌, List, IfOk, OnOk, map};
+ghost use Rattle.std.specs.Prelude.{◌≡◌, ◌++◌, List, IfOk, OnOk};
 ghost use Rattle.turbo_config.specs.declared.task_id.TaskId.{TaskId};
 ghost use Rattle.task_graph.specs.Graphs.{AreTasks};
 ghost use Rattle.task_graph.specs.Fronts.{AreRowsOf, Visits};

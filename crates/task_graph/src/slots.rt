@@ -3,7 +3,7 @@ ghost use Rattle.std.specs.Prelude.{◌≡◌, ◌||◌, ◌&&◌, ◌==◌, ◌
 ghost use Rattle.std.specs.List.Sorted.{IsStrictlySortedBy};
 ghost use Rattle.std.specs.Ordering.{nat_cmp};
 ghost use Rattle.std.specs.BTreeSet.{contains};
-ghost use Rattle.workspaces.specs.Reach.{is_in, AreBelow, row_at};
+ghost use Rattle.workspaces.specs.Reach.{is_in, AreBelow};
 ghost use Rattle.task_graph.specs.Sorting.{slot_at, settled, Fits, is_ready};
 ghost use Rattle.task_graph.specs.Memory.{OnlyMemory};
 

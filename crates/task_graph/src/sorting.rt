@@ -1,5 +1,5 @@
 // A topological order by numbers.
-ghost use Rattle.std.specs.Prelude.{◌≡◌, IfOk};
+ghost use Rattle.std.specs.Prelude.{IfOk};
 ghost use Rattle.task_graph.specs.Rows.{AreRows};
 ghost use Rattle.task_graph.specs.Sorting.{IsSorted};
 ghost use Rattle.task_graph.specs.Memory.{OnlyMemory};

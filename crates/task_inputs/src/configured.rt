@@ -3,7 +3,7 @@ ghost use Rattle.std.specs.Prelude.{◌≡◌, ◌++◌, ◌∷◌, [], IfOk, On
 ghost use Rattle.std.specs.List.{list_any};
 ghost use Rattle.globs.specs.Outputs.{takes, declares};
 ghost use Rattle.listing.specs.Memory.{OnlyMemory};
-ghost use Rattle.task_inputs.specs.Homes.{configured_in, declares_in, others_than};
+ghost use Rattle.task_inputs.specs.Homes.{configured_in, others_than};
 ghost use Rattle.task_inputs.specs.Lone.{lone, lone_by, lone_tasks, rest_of, as_home, IsHome};
 
 use crate::definitions::definition;

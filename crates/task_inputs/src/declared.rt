@@ -36,7 +36,6 @@ impl Model for Declared {
 
     ghost Value = { List Home };
 
-    ghost use Rattle.task_inputs.specs.Facts.{may_count_in};
     ghost use Rattle.task_inputs.specs.Folders.{AreIndexed};
 
     ghost view = { λ a. a.homes.items };

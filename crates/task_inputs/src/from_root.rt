@@ -6,7 +6,7 @@ ghost use Rattle.workspaces.specs.Reach.{AreBelow};
 ghost use Rattle.workspaces.specs.Space.{owners};
 ghost use Rattle.turbo_config.specs.Setup.{AreNames};
 ghost use Rattle.task_inputs.specs.Homes.{LieApart};
-ghost use Rattle.task_inputs.specs.Facts.{home_place, is_wide_list};
+ghost use Rattle.task_inputs.specs.Facts.{is_wide_list};
 ghost use Rattle.task_inputs.specs.Rooted.{IsRooted, ArePicked, far_by, far_test, AreTasksOf, AreTasks, Reads, are_some};
 
 use crate::declared::Declared;

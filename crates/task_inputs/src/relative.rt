@@ -1,8 +1,8 @@
 // What is left of a path below a folder.
-ghost use Rattle.std.specs.Prelude.{◌≡◌, IfOk, MatchOption, None, Some, IsTrue};
+ghost use Rattle.std.specs.Prelude.{◌≡◌, IfOk, MatchOption, None, Some};
 ghost use Rattle.rel_path.specs.Paths.{strip, AreNames};
 ghost use Rattle.listing.specs.Memory.{OnlyMemory};
-ghost use Rattle.task_inputs.specs.Entries.{behind, relative, rest_where};
+ghost use Rattle.task_inputs.specs.Entries.{relative, rest_where};
 
 use listing::ListErr;
 use rel_path::{RelPath, Text};

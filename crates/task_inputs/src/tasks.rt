@@ -1,5 +1,5 @@
 // The globs of a task, and the files that it takes.
-ghost use Rattle.std.specs.Prelude.{◌≡◌, ◌<◌, ◌&&◌, not, length, IfOk};
+ghost use Rattle.std.specs.Prelude.{◌≡◌, ◌<◌, ◌&&◌, length, IfOk};
 ghost use Rattle.listing.specs.Memory.{OnlyMemory};
 ghost use Rattle.workspaces.specs.Space.{owners};
 ghost use Rattle.task_inputs.specs.Entries.{rest_where};

@@ -1,5 +1,5 @@
 // Going through a folder, in order.
-ghost use Rattle.std.specs.Prelude.{◌≡◌, ◌≤◌, ◌<◌, ℕ, Bool, true, false, List, length, IsTrue};
+ghost use Rattle.std.specs.Prelude.{◌≡◌, ◌≤◌, ◌<◌, true, false, length, IsTrue};
 ghost use Rattle.std.specs.List.{All};
 ghost use Rattle.rel_path.specs.Paths.{Path, is_component};
 ghost use Rattle.tree_dev.specs.Tree.{Looks};

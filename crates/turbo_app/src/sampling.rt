@@ -1,5 +1,5 @@
 // A sample.
-ghost use Rattle.std.specs.Prelude.{◌≡◌, ◌+◌, ℕ};
+ghost use Rattle.std.specs.Prelude.{◌≡◌, ℕ};
 ghost use Rattle.answers.specs.Answers.{IfDone, IfRefused, HasCauseIn, counts_of};
 ghost use Rattle.answers.specs.Stops.{IfFault};
 ghost use Rattle.sample.specs.Lines.{PutsSample};

@@ -1,5 +1,5 @@
 // The definition of a task of a package.
-ghost use Rattle.std.specs.Prelude.{◌≡◌, IfOk, IfSome, IsOkUnless};
+ghost use Rattle.std.specs.Prelude.{IfOk, IfSome, IsOkUnless};
 ghost use Rattle.std.specs.Option.{option_copied};
 ghost use Rattle.turbo_config.specs.Entries.{Lends, Defines};
 ghost use Rattle.turbo_config.specs.Reads.{EntryReads, DefReads};

@@ -1,5 +1,5 @@
 // The first entry of a list that is no glob.
-ghost use Rattle.std.specs.Prelude.{◌≡◌, ◌+◌, ◌<◌, ◌^◌, length, MatchResult, IfOk, IsOkUnless};
+ghost use Rattle.std.specs.Prelude.{◌≡◌, ◌+◌, ◌<◌, ◌^◌, length, IfOk, IsOkUnless};
 ghost use Rattle.std.specs.Str.{chars};
 ghost use Rattle.glob_syntax.specs.Reading.{fault_at};
 ghost use Rattle.turbo_config.specs.Answers.{Passes};

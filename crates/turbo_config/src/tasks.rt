@@ -2,7 +2,7 @@
 ghost use Rattle.std.specs.Prelude.{◌≡◌, [], IfOk, IfSome, IsTrue, OnOk, IsOkUnless};
 ghost use Rattle.std.specs.Option.{option_map};
 ghost use Rattle.std.specs.BTreeMap.{insert_entry};
-ghost use Rattle.serde_json.specs.View.{view, members_view};
+ghost use Rattle.serde_json.specs.View.{view};
 ghost use Rattle.rel_path.specs.Paths.{name_cmp};
 ghost use Rattle.turbo_config.specs.Answers.{Reads, ReadsInto, Passes};
 ghost use Rattle.turbo_config.specs.Entries.{at_name, Lends};

@@ -1,6 +1,5 @@
 // Values of the kinds that a turbo.json has.
 ghost use Rattle.std.specs.Prelude.{◌≡◌, ◌⊎◌};
-ghost use Rattle.std.specs.Option.{option_map};
 ghost use Rattle.serde_json.specs.View.{view, members_view};
 ghost use Rattle.turbo_config.specs.Answers.{Reads, ReadsAs};
 ghost use Rattle.turbo_config.specs.Values.{flag_at, text_at, texts_at, list_at, members_at, log_mode_of, log_mode_at, env_mode_of, env_mode_at};

@@ -1,7 +1,6 @@
 // Which texts of dependencies make an edge to a package.
-ghost use Rattle.std.specs.Prelude.{◌≡◌, ◌||◌, IfOk, Some, nat_eq, bytes_eq, codes};
+ghost use Rattle.std.specs.Prelude.{◌≡◌, ◌||◌, IfOk, Some};
 ghost use Rattle.std.specs.List.{starts_with};
-ghost use Rattle.npm_range.specs.Grammar.{range};
 ghost use Rattle.workspaces.specs.Edges.{is_local, release_in, admits_in, is_edge};
 ghost use Rattle.workspaces.specs.Steps.{OnlyMemory};
 

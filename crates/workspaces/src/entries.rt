@@ -1,5 +1,5 @@
 // The globs of a root manifest's `workspaces`.
-ghost use Rattle.std.specs.Prelude.{◌≡◌, ◌⊎◌, IfOk, MatchResult, None, Some, false, slice_index_or, map, []};
+ghost use Rattle.std.specs.Prelude.{◌≡◌, IfOk, MatchResult, None, Some, false, slice_index_or, map, []};
 ghost use Rattle.glob_syntax.specs.Faults.{moved};
 ghost use Rattle.workspaces.specs.Entries.{has_dot, without_dot, without_slash, trimmed, dropped, entry_pointer, list_pointer, globs_of, globs_fault};
 ghost use Rattle.workspaces.specs.Steps.{OnlyMemory, MayRefuse, HasCause, is_failed};

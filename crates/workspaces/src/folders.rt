@@ -1,6 +1,6 @@
 // The folders of packages, among the walked files.
-ghost use Rattle.std.specs.Prelude.{◌≡◌, ◌==◌, IfOk, IsTrue, filter, length};
-ghost use Rattle.std.specs.List.{filter_map, list_all};
+ghost use Rattle.std.specs.Prelude.{◌≡◌, IfOk, IsTrue};
+ghost use Rattle.std.specs.List.{list_all};
 ghost use Rattle.rel_path.specs.Paths.{is_component};
 ghost use Rattle.workspaces.specs.Space.{folder_of, is_taken, folders_in};
 ghost use Rattle.workspaces.specs.Steps.{OnlyMemory};

@@ -1,10 +1,8 @@
 // Names, looked up in lists that ascend by name.
-ghost use Rattle.std.specs.Prelude.{◌≡◌, IfOk, IfSome, MatchOption, map};
+ghost use Rattle.std.specs.Prelude.{◌≡◌, IfOk, MatchOption};
 ghost use Rattle.std.specs.Option.{option_copied};
-ghost use Rattle.std.specs.List.Sorted.{IsStrictlySortedBy};
 ghost use Rattle.json_view.specs.Pairs.{AscendByName};
 ghost use Rattle.manifest.specs.Manifest.{AreAscending};
-ghost use Rattle.rel_path.specs.Paths.{name_cmp};
 ghost use Rattle.workspaces.specs.Edges.{text_by, dep_text, is_peer, has_name, links};
 ghost use Rattle.workspaces.specs.Steps.{OnlyMemory, AscendingNames, IsNamedAt, IsNoName};
 

@@ -1,5 +1,5 @@
 // A package of a workspace.
-ghost use Rattle.std.specs.Prelude.{◌≡◌, refl, Some};
+ghost use Rattle.std.specs.Prelude.{refl, Some};
 ghost use Rattle.std.specs.Cmp.{partial_equiv_from_equiv};
 ghost use Rattle.workspaces.specs.Order.{same_place, package_cmp, package_total, packages_tie, same_place_equiv, package_po};
 

@@ -1,5 +1,5 @@
 // The names that a manifest needs from outside of the workspace.
-ghost use Rattle.std.specs.Prelude.{◌≡◌, ◌++◌, ◌&&◌, not, IfOk, OnOk, filter};
+ghost use Rattle.std.specs.Prelude.{◌≡◌, ◌++◌, IfOk, OnOk, filter};
 ghost use Rattle.manifest.specs.Manifest.{AreAscending};
 ghost use Rattle.workspaces.specs.Edges.{is_inner, is_outer, is_soft, is_hard_need, is_soft_need, names_by, needs_of};
 ghost use Rattle.workspaces.specs.Steps.{OnlyMemory, AscendingNames};

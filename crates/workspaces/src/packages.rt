@@ -1,5 +1,5 @@
 // The packages of a workspace, with what is known of them.
-ghost use Rattle.std.specs.Prelude.{◌≡◌, ◌<◌, ◌^◌, ℕ, length, map, None, Some, IfOk, IfErr, MatchOption};
+ghost use Rattle.std.specs.Prelude.{◌≡◌, ◌<◌, length, map, None, Some, IfOk, MatchOption};
 ghost use Rattle.std.specs.List.{HoldsAt};
 ghost use Rattle.manifest.specs.Manifest.{AreAscending};
 ghost use Rattle.workspaces.specs.Reach.{IsReached, AreBelow};

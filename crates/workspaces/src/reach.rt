@@ -1,5 +1,5 @@
 // What is reached over at least one edge.
-ghost use Rattle.std.specs.Prelude.{◌≡◌, ◌<◌, ◌≤◌, ◌^◌, IfOk, OnOk, length};
+ghost use Rattle.std.specs.Prelude.{◌≡◌, ◌<◌, ◌^◌, IfOk, OnOk, length};
 ghost use Rattle.workspaces.specs.Lists.{places};
 ghost use Rattle.workspaces.specs.Reach.{IsReached, leads_in, AreBelow, AreRowsBelow};
 ghost use Rattle.workspaces.specs.Marks.{Adds, itself};

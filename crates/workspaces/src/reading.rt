@@ -3,7 +3,6 @@ ghost use Rattle.std.specs.Prelude.{◌≡◌, ◌⊎◌, ◌++◌, false, IfOk,
 ghost use Rattle.std.specs.List.Sorted.{IsStrictlySortedBy};
 ghost use Rattle.rel_path.specs.Paths.{Path, path_cmp};
 ghost use Rattle.tree_dev.specs.Tree.{Looks, within};
-ghost use Rattle.manifest.specs.Manifest.{AreAscending};
 ghost use Rattle.workspaces.specs.Space.{manifest_in, package_of, package_at, packages_at, Discovers};
 ghost use Rattle.rel_path.specs.Limits.{file_limit};
 ghost use Rattle.workspaces.specs.Steps.{OnlyMemory, HasCause};
