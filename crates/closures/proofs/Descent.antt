@@ -9,7 +9,7 @@ use Rattle.listing.specs.declared.part.Listing.{Listing}
 use Rattle.run_laws.specs.Ancestors.{part_at, blank, is_above, IsLower}
 use Rattle.run_laws.specs.Closures.{in_closure, IsClosed}
 use Rattle.run_laws.proofs.AncestorFacts.{reaches-closed, reaches-lower, closure-closed}
-use Rattle.run_laws.proofs.ListFacts.{any_gives, all_members, all_weaker}
+use Rattle.run_core.proofs.Any.{any_gives, all_members, all_weaker}
 use Rattle.closures.specs.Places.{has, HasNoneBelow, IsLastBelow}
 
 -- What is kept when the places from this one on were looked at: parts of the closure, the place itself, and the

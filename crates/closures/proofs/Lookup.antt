@@ -12,7 +12,7 @@ use Rattle.listing.specs.declared.part.Part.{Part}
 use Rattle.spawn_dev.specs.Orders.{IsBefore, AscendByPath}
 use Rattle.closures.specs.Named.{marks_of}
 use Rattle.run_laws.specs.Closures.{names}
-use Rattle.run_laws.proofs.ListFacts.{all_weaker}
+use Rattle.run_core.proofs.Any.{all_weaker}
 
 abbrev Files : Type 0
 Files = List (Path × List ℕ)

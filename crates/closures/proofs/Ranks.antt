@@ -16,7 +16,7 @@ use Rattle.run_laws.specs.Ancestors.{part_at, blank}
 use Rattle.run_laws.specs.Closures.{renumbered, sub_parts}
 use Rattle.run_laws.specs.Picks.{pick, rank}
 use Rattle.run_laws.proofs.PickFacts.{length-pick, get_or-pick}
-use Rattle.run_laws.proofs.ListFacts.{any_none}
+use Rattle.run_core.proofs.Any.{any_none}
 use Rattle.closures.specs.Places.{has, Ascend}
 
 below : (a b : ℕ) → nat_cmp a b ≡ Less → a < b

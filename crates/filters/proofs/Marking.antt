@@ -4,7 +4,7 @@ use Rattle.std.specs.Prelude.{replicate, nat_lt}
 use Rattle.std.proofs.lemmas.Bool.Decides.{eqb_tells, nat_tests}
 use Rattle.workspaces.specs.Marks.{is_marked}
 use Rattle.workspaces.specs.Reach.{is_in}
-use Rattle.filters.proofs.Places.{in_more, self_place, other_place}
+use Rattle.workspaces.proofs.Marking.{in_more, self_place, other_place}
 
 marked-set : (marks : List Bool) (at : ℕ) (v : Bool) (q : ℕ) → at < length marks → is_marked (set marks at v) q ≡ cond (at == q) v (is_marked marks q)
 marked-set [] at v q less = absurd (omega arith)
@@ -24,11 +24,6 @@ cond_or false b v old = refl
 -- one place more has the mark
 pub mark_more : (ps : List ℕ) (at : ℕ) (v : Bool) (old new : List Bool) → ((q : ℕ) → is_marked new q ≡ cond (is_in ps q) v (is_marked old q)) → at < length new → (q : ℕ) → is_marked (set new at v) q ≡ cond (is_in (ps ++ at ∷ []) q) v (is_marked old q)
 mark_more ps at v old new before less q = marked-set new at v q less ∙ (ap (λ t. cond (at == q) v t) (before q) ∙ (cond_or (is_in ps q) (at == q) v (is_marked old q) ∙ ap (λ t. cond t v (is_marked old q)) (sym (in_more ps at q))))
-
-pub none_marked : (count q : ℕ) → is_marked (replicate count false) q ≡ false
-none_marked zero q = refl
-none_marked (suc count) zero = refl
-none_marked (suc count) (suc q) = none_marked count q
 
 pub all_marked : (count q : ℕ) → is_marked (replicate count true) q ≡ nat_lt q count
 all_marked zero q = sym (grind (arith, nat_tests))

@@ -1,80 +1,21 @@
--- Places of what passes, and numbers that ascend.
-use Rattle.std.proofs.Common.{◌≡◌, ◌≢◌, ◌==◌, ◌||◌, ◌⊎◌, inl, inr, ℕ, zero, suc, ◌+◌, ◌<◌, Bool, true, false, cond, List, [], ◌∷◌, ◌++◌, length, map, take, refl, sym, ap, ◌∙◌, subst, arith, eqb, ne_eqb, get_or, add-one}
+-- Places of what passes, and their bounds.
+use Rattle.std.proofs.Common.{◌≡◌, ◌≢◌, ◌==◌, ◌||◌, ℕ, zero, suc, ◌+◌, ◌<◌, Bool, true, false, cond, List, [], ◌∷◌, ◌++◌, length, map, take, refl, sym, ap, ◌∙◌, arith, add-one}
 use Rattle.std.specs.List.{HoldsAt}
 use Rattle.workspaces.specs.declared.member.Package.{Package}
 use Rattle.workspaces.specs.Edges.{has_edge}
 use Rattle.workspaces.specs.Members.{leads, leads_back}
 use Rattle.std.specs.Prelude.{nat_lt}
-use Rattle.std.specs.List.{list_any, AllByRecursion}
-use Rattle.std.specs.List.Sorted.{IsStrictlySortedBy}
-use Rattle.std.specs.declared.cmp.Ordering.TheVariants.{Less}
-use Rattle.std.specs.Ordering.{nat_cmp, MatchOrdering}
-use Rattle.std.specs.Cmp.{nat_cmp_is, ranks}
+use Rattle.std.specs.List.{list_any}
 use Rattle.std.proofs.lemmas.Bool.{false≢true}
-use Rattle.std.proofs.lemmas.Bool.Decides.{eqb_tells, nat_tests}
-use Rattle.std.proofs.lemmas.List.Folds.{list_any-append}
+use Rattle.std.proofs.lemmas.Bool.Decides.{nat_tests}
 use Rattle.workspaces.specs.Lists.{places, passes_at}
 use Rattle.workspaces.specs.Reach.{is_in, IsClosed, IsReached, AreBelow}
-
--- ---- one number
-
-pub same_place : (p q : ℕ) → (p == q) ≡ true → p ≡ q
-same_place p q e = grind (arith, nat_tests, e)
-
-pub self_place : (p : ℕ) → (p == p) ≡ true
-self_place p = by (eqb_tells p p) where
-  by : ((eqb p p ≡ true) × (p ≡ p)) ⊎ ((eqb p p ≡ false) × (p ≢ p)) → (p == p) ≡ true
-  by (inl same) = same.0
-  by (inr other) = absurd (other.1 refl)
-
-pub other_place : (p q : ℕ) → p ≢ q → (p == q) ≡ false
-other_place p q apart = ne_eqb p q apart
-
-same_suc : (p q : ℕ) → (suc p == suc q) ≡ (p == q)
-same_suc p q = by (eqb_tells p q) where
-  by : ((eqb p q ≡ true) × (p ≡ q)) ⊎ ((eqb p q ≡ false) × (p ≢ q)) → (suc p == suc q) ≡ (p == q)
-  by (inl same) = rw (same.1, self_place q, self_place (suc q)) refl
-  by (inr other) = rw (other.0, other_place (suc p) (suc q) (λ e. other.1 (omega (arith, e)))) refl
-
-nat_less : (a b : ℕ) → a < b → nat_cmp a b ≡ Less
-nat_less a b less = sym (nat_cmp_is a b Less less)
-
-less_nat : (a b : ℕ) → nat_cmp a b ≡ Less → a < b
-less_nat a b less = subst (λ r. MatchOrdering r (a < b) (a ≡ b) (b < a)) less (ranks a b)
-
--- ---- one number more
-
-or_false : (a : Bool) → (a || false) ≡ a
-or_false true = refl
-or_false false = refl
-
-pub in_more : (ps : List ℕ) (p q : ℕ) → is_in (ps ++ p ∷ []) q ≡ (is_in ps q || (p == q))
-in_more ps p q = list_any-append (λ r. r == q) ps (p ∷ []) ∙ ap (λ t. is_in ps q || t) (or_false (p == q))
+use Rattle.workspaces.proofs.Marking.{self_place}
+use Rattle.workspaces.proofs.Turning.{in-places}
 
 -- ---- places
 
-in_suc : (ps : List ℕ) (q : ℕ) → is_in (map suc ps) (suc q) ≡ is_in ps q
-in_suc [] q = refl
-in_suc (p ∷ ps) q = rw (same_suc p q, in_suc ps q) refl
-
-in_suc-zero : (ps : List ℕ) → is_in (map suc ps) 0 ≡ false
-in_suc-zero [] = refl
-in_suc-zero (p ∷ ps) = rw (other_place (suc p) 0 (λ e. absurd (omega (arith, e))), in_suc-zero ps) refl
-
 module _ {X : Type 0} (test : X → Bool) where
-  -- a place is among those of what passes where what stands there passes
-  pub in_places : (xs : List X) (q : ℕ) → is_in (places test xs) q ≡ passes_at test xs q
-  unfolding places
-  in_places [] q = refl
-  in_places (x ∷ xs) zero = by (test x) where
-    by : (t : Bool) → is_in (cond t (zero ∷ map suc (places test xs)) (map suc (places test xs))) 0 ≡ t
-    by true = refl
-    by false = in_suc-zero (places test xs)
-  in_places (x ∷ xs) (suc q) = by (test x) (in_suc (places test xs) q ∙ in_places xs q) where
-    by : (t : Bool) → is_in (map suc (places test xs)) (suc q) ≡ passes_at test xs q → is_in (cond t (zero ∷ map suc (places test xs)) (map suc (places test xs))) (suc q) ≡ passes_at test xs q
-    by true e = rw (other_place 0 (suc q) (λ e. absurd (omega (arith, e)))) e
-    by false e = e
-
   pub passes_within : (xs : List X) (q : ℕ) → passes_at test xs q ≡ true → q < length xs
   passes_within [] q is = absurd (false≢true is)
   passes_within (x ∷ xs) zero is = omega arith
@@ -117,29 +58,6 @@ module _ {X : Type 0} (test : X → Bool) where
     by true e more = absurd (false≢true (sym e))
     by false e more = more e
 
--- ---- order
-
-suc_above : (x : ℕ) (ys : List ℕ) → AllByRecursion (λ y. nat_cmp x y ≡ Less) ys → AllByRecursion (λ y. nat_cmp (suc x) y ≡ Less) (map suc ys)
-suc_above x [] all = tt
-suc_above x (y ∷ ys) all = (let less : x < y = less_nat x y all.0 in nat_less (suc x) (suc y) (omega arith), suc_above x ys all.1)
-
-zero_below : (ys : List ℕ) → AllByRecursion (λ y. nat_cmp 0 y ≡ Less) (map suc ys)
-zero_below [] = tt
-zero_below (y ∷ ys) = (nat_less 0 (suc y) (omega arith), zero_below ys)
-
-sorted-suc : (xs : List ℕ) → IsStrictlySortedBy nat_cmp xs → IsStrictlySortedBy nat_cmp (map suc xs)
-unfolding IsStrictlySortedBy
-sorted-suc [] up = tt
-sorted-suc (x ∷ xs) up = (suc_above x xs up.0, sorted-suc xs up.1)
-
-pub sorted-places : {X : Type 0} (test : X → Bool) (xs : List X) → IsStrictlySortedBy nat_cmp (places test xs)
-unfolding places IsStrictlySortedBy
-sorted-places test [] = tt
-sorted-places test (x ∷ xs) = by (test x) (sorted-suc (places test xs) (sorted-places test xs)) where
-  by : (t : Bool) → IsStrictlySortedBy nat_cmp (map suc (places test xs)) → IsStrictlySortedBy nat_cmp (cond t (zero ∷ map suc (places test xs)) (map suc (places test xs)))
-  by true up = (zero_below (places test xs), up)
-  by false up = up
-
 -- ---- bounds
 
 pub below_each : (count : ℕ) (ps : List ℕ) → ((p : ℕ) → is_in ps p ≡ true → p < count) → AreBelow count ps
@@ -150,12 +68,7 @@ below_each count (p ∷ ps) each = (each p (rw (self_place p) refl), below_each 
   or_right false b e = e
 
 pub below_places : {X : Type 0} (test : X → Bool) (xs : List X) → AreBelow (length xs) (places test xs)
-below_places test xs = below_each (length xs) (places test xs) (λ p is. passes_within test xs p (sym (in_places test xs p) ∙ is))
-
-pub below_at : (count : ℕ) (ps : List ℕ) → AreBelow count ps → (i : ℕ) (d : ℕ) → i < length ps → get_or ps i d < count
-below_at count [] all i d less = absurd (omega arith)
-below_at count (p ∷ ps) all zero d less = all.0
-below_at count (p ∷ ps) all (suc i) d less = below_at count ps all.1 i d (omega arith)
+below_places test xs = below_each (length xs) (places test xs) (λ p is. passes_within test xs p (sym (in-places test xs p) ∙ is))
 
 -- the same with the code's next place
 pub places_next : {X : Type 0} (test : X → Bool) (xs : List X) (q : ℕ) → q < length xs → places test (take (q + 1) xs) ≡ places test (take q xs) ++ cond (passes_at test xs q) (q ∷ []) []

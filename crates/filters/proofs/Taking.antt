@@ -17,8 +17,9 @@ use Rattle.filters.specs.Selection.{Taking, Takes, IsReachedIf, core_in, AreSele
 use Rattle.filters.specs.Sides.{AddsTo, AreSides, AreNeighbours, is_taken, is_chosen}
 use Rattle.filters.specs.Sides as sides
 use Rattle.std.proofs.lemmas.List.{length-replicate}
-use Rattle.filters.proofs.Places.{in_places}
-use Rattle.filters.proofs.Marking.{none_marked, all_marked, marked_within}
+use Rattle.workspaces.proofs.Turning.{in-places}
+use Rattle.workspaces.proofs.Marking.{none_marked}
+use Rattle.filters.proofs.Marking.{all_marked, marked_within}
 
 pub takes_by : (packages : List Package) (filter : Filter) (n : Neighbours) (keeps : Bool) (found : List ℕ) → AreNeighbours packages filter n → keeps ≡ not (leaves_core filter) → ((p : ℕ) → is_in found p ≡ is_taken n keeps p) → Takes packages filter (is_in found)
 takes_by packages filter n keeps found h k marks = record {
@@ -33,7 +34,7 @@ takes_by packages filter n keeps found h k marks = record {
 
 -- the places of marks are those that are marked
 pub marked_places : (marks : List Bool) (found : List ℕ) → found ≡ places itself marks → (p : ℕ) → is_in found p ≡ is_marked marks p
-marked_places marks found is p = ap (λ f. is_in f p) is ∙ in_places itself marks p
+marked_places marks found is p = ap (λ f. is_in f p) is ∙ in-places itself marks p
 
 -- ---- the sides
 

@@ -1,20 +1,14 @@
 -- Packages, found by their folders.
 use Rattle.std.proofs.Common.{◌≡◌, ◌≢◌, ◌⊎◌, inl, inr, ◌&&◌, ℕ, zero, suc, ◌+◌, ◌<◌, ◌≤◌, Bool, true, false, cond, List, [], ◌∷◌, ◌++◌, length, take, drop, map, refl, sym, ap, ◌∙◌, subst, arith}
-use Rattle.std.specs.Prelude.{Option, Some, None, Result, Ok, Err, IfOk, OnOk, Vec, not}
-use Rattle.std.specs.declared.alloc.Global.{Global}
+use Rattle.std.specs.Prelude.{Option, Some, None, Result, Ok, Err, IfOk, OnOk, not}
 use Rattle.std.specs.List.{slice_get, HoldsAt, join_with_byte}
-use Rattle.std.specs.Map.{lookup}
-use Rattle.std.specs.BTreeMap.{insert_entry}
-use Rattle.std.specs.Ordering.{is_eq, match_ordering}
-use Rattle.std.specs.declared.cmp.Ordering.{Ordering}
-use Rattle.std.specs.declared.cmp.Ordering.TheVariants.{Less, Equal, Greater}
 use Rattle.std.proofs.Math.ListN.{take-append-drop, length-append}
 use Rattle.std.proofs.lemmas.Bool.{false≢true, cases_eq}
 use Rattle.std.proofs.lemmas.Option.{slice_get_within}
-use Rattle.rel_path.specs.Paths.{Path, AreNames, name_eq, path_eq, path_cmp, strip, parts_of, text_fault, MayRefuse}
+use Rattle.rel_path.specs.Paths.{Path, AreNames, name_eq, path_eq, strip, parts_of, text_fault, MayRefuse}
 use Rattle.rel_path.specs.declared.error.PathErr.{PathErr}
 use Rattle.rel_path.specs.declared.error.PathErr.TheVariants.{Empty, DotPart, Slash, OutOfMemory}
-use Rattle.rel_path.proofs.PathLaws.{path_ties, path_same, path_self, name_same, name_self, strip_is, strip_append}
+use Rattle.rel_path.proofs.PathLaws.{path_same, path_self, name_same, name_self, strip_is, strip_append}
 use Rattle.rel_path.proofs.Parts.{parts_of-join, text_fault-join}
 use Rattle.workspaces.specs.declared.member.Package.{Package}
 use Rattle.workspaces.specs.Space.{Space, IsProper, owners, is_home_of, lies_in_some, lies_below, is_proper}
@@ -28,59 +22,6 @@ use Rattle.kept_packages.proofs.Owners.{inner_slot, lie_apart, below_root, not_r
 
 never : {X : Type 0} (x : X) (o : Option X) → o ≡ None → o ≡ Some x → ⊥
 never x o none some = cc
-
--- ---- look-ups after an insertion
-
-abbrev Key : Type 0
-Key = Vec (List ℕ) Global
-
-abbrev key_cmp : Key → Key → Ordering
-key_cmp a b = path_cmp a.items b.items
-
-abbrev at_key : Path → Key → Bool
-at_key folder key = is_eq (path_cmp folder key.items)
-
-at_same : (folder : Path) (key : Key) → at_key folder key ≡ true → folder ≡ key.items
-at_same folder key e = path_same folder key.items (path_ties folder key.items ∙ e)
-
-order_same : (a b : Path) → path_cmp a b ≡ Equal → a ≡ b
-order_same a b e = path_same a b (path_ties a b ∙ ap is_eq e)
-
-order_self : (a : Path) → is_eq (path_cmp a a) ≡ true
-order_self a = sym (path_ties a a) ∙ path_self a
-
-not_both_keys : (folder : Path) (key other : Key) → key_cmp key other ≡ Greater → at_key folder other ≡ true → at_key folder key ≡ true → ⊥
-not_both_keys folder key other g a b =
-    let equal : is_eq (key_cmp key other) ≡ true = rw (← at_same folder key b, ← at_same folder other a) (order_self folder) in
-    false≢true (sym (ap is_eq g) ∙ equal)
-
-module _ {V : Type 0} where
-  twice : (t : Bool) (a b last : Option V) → cond t a last ≡ cond t a (cond t b last)
-  twice true a b last = refl
-  twice false a b last = refl
-
-  swapped : (s t : Bool) (a b last : Option V) → (s ≡ true → t ≡ true → ⊥) → cond s a (cond t b last) ≡ cond t b (cond s a last)
-  swapped true true a b last never = absurd (never refl refl)
-  swapped true false a b last never = refl
-  swapped false t a b last never = refl
-
-  match_cases : (folder : Path) (e : Key × V) (es : List (Key × V)) (key : Key) (v : V) (o : Ordering) → key_cmp key e.0 ≡ o → lookup (at_key folder) (insert_entry key_cmp es key v) ≡ cond (at_key folder key) (Some v) (lookup (at_key folder) es)
-      → lookup (at_key folder) (match_ordering o ((key, v) ∷ e ∷ es) ((e.0, v) ∷ es) (e ∷ insert_entry key_cmp es key v)) ≡ cond (at_key folder key) (Some v) (lookup (at_key folder) (e ∷ es))
-  match_cases folder e es key v Less is h = refl
-  match_cases folder e es key v Equal is h =
-      let same : at_key folder key ≡ at_key folder e.0 = ap (λ names. is_eq (path_cmp folder names)) (order_same key.items e.0.items is) in
-      rw same (twice (at_key folder e.0) (Some v) (Some e.1) (lookup (at_key folder) es))
-  match_cases folder e es key v Greater is h =
-      rw h (swapped (at_key folder e.0) (at_key folder key) (Some e.1) (Some v) (lookup (at_key folder) es) (not_both_keys folder key e.0 is))
-
-  lookup_inserted : (folder : Path) (entries : List (Key × V)) (key : Key) (v : V) → lookup (at_key folder) (insert_entry key_cmp entries key v) ≡ cond (at_key folder key) (Some v) (lookup (at_key folder) entries)
-  lookup_inserted folder [] key v = refl
-  lookup_inserted folder (e ∷ es) key v = match_cases folder e es key v (key_cmp key e.0) refl (lookup_inserted folder es key v)
-
--- what stands by a folder when a number was put by one
-pub number_put : (folder other : Path) (old new : Folders) (key : Key) (number : ℕ) → key.items ≡ folder → new.entries ≡ insert_entry key_cmp old.entries key number → number_at new other ≡ cond (path_eq other folder) (Some number) (number_at old other)
-number_put folder other old new key number names is =
-    ap (lookup (at_key other)) is ∙ lookup_inserted other old.entries key number ∙ ap (λ b. cond b (Some number) (number_at old other)) (sym (path_ties other key.items) ∙ ap (path_eq other) names)
 
 -- ---- the first so many packages
 

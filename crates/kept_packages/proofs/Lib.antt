@@ -1,6 +1,5 @@
 mod Lists
 mod Gains
-mod Marking
 mod Owners
 mod Indexing
 mod Texts

@@ -8,7 +8,7 @@ use Rattle.std.specs.Cmp.{IsTotalOrder}
 use Rattle.std.proofs.lemmas.Bool.{cases_Bool, or_cases, or_left, or_right, false≢true, eq-eqb, eqb-true}
 use Rattle.workspaces.specs.Lists.{Has, places}
 use Rattle.run_laws.specs.Picks.{pick, rank}
-use Rattle.run_laws.proofs.ListFacts.{all-map, any-map, any_mono}
+use Rattle.run_core.proofs.Any.{all-map, any-map, any_mono}
 use Rattle.run_laws.proofs.PickFacts.{shift, rank-true, rank-false}
 use Rattle.prune_facts.proofs.Lists.{some_inj, none≢some, get_has}
 use Rattle.prune_facts.proofs.Following.{among, has_among}

@@ -2,7 +2,7 @@
 use Rattle.std.proofs.Common.{◌≡◌, ℕ, zero, suc, ◌<◌, ◌≤◌, ◌==◌, Bool, true, ◌||◌, refl, sym, ap, ◌∙◌, arith, inl, inr}
 use Rattle.std.specs.List.{list_any, AllByRecursion}
 use Rattle.std.proofs.lemmas.Bool.{or_cases, or_left, or_right, false≢true, eqb-true}
-use Rattle.run_laws.proofs.ListFacts.{all_both, any-map, any_agree, any_none, any_gives, any_mono, all_members, get_or-map}
+use Rattle.run_core.proofs.Any.{all_both, any-map, any_agree, any_none, any_gives, any_mono, all_members, get_or-map}
 use Rattle.run_laws.proofs.PickFacts.{rank-same, rank-lt, get_or-pick}
 use Rattle.run_laws.specs.Ancestors.{part_at, blank, reaches, is_above, IsLower}
 use Rattle.run_laws.specs.Picks.{pick, rank}

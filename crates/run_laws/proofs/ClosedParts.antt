@@ -1,11 +1,10 @@
 -- The clean run of a part of a listing is that part of the clean run.
-use Rattle.std.proofs.Common.{◌≡◌, ℕ, zero, suc, ◌<◌, ◌==◌, ◌&&◌, ◌++◌, Bool, true, false, cond, List, [], ◌∷◌, map, filter, length, slice_get, refl, sym, ap, ◌∙◌, arith, inl, inr, Some}
+use Rattle.std.proofs.Common.{◌≡◌, ℕ, zero, suc, ◌<◌, ◌==◌, ◌&&◌, ◌++◌, Bool, true, false, cond, List, [], ◌∷◌, map, filter, length, slice_get, refl, sym, ap, ◌∙◌, arith, inl, inr, Some, length-append}
 use mathlib.Core.Path.{fun_ext}
-use Rattle.std.proofs.Common.{length-append}
 use Rattle.std.proofs.lemmas.List.{length-map}
 use Rattle.std.specs.List.{list_any}
 use Rattle.std.proofs.lemmas.Bool.{cases_Bool, or_cases, or_left, or_right, false≢true, eqb-true, false_from_ne_true, eq-eqb}
-use Rattle.run_laws.proofs.ListFacts.{any-map, any_agree, any_at}
+use Rattle.run_core.proofs.Any.{any-map, any_agree, any_at}
 use Rattle.run_laws.proofs.PickFacts.{rank-kept, rank-left, get_or-pick, get-pick, pick-pick, pick-push_kept, pick-push_left, length-pick, map-pick, shift}
 use Rattle.run_laws.proofs.AncestorFacts.{part-sub, above-sub, reaches-closed, reaches-lower, closure-closed}
 use Rattle.rel_path.specs.Paths.{Path, path_eq, is_among}

@@ -1,7 +1,7 @@
 -- Each clean outcome from the others.
 use Rattle.std.proofs.Common.{◌≡◌, ℕ, zero, suc, ◌<◌, ◌≤◌, ◌&&◌, ◌++◌, cond, List, [], ◌∷◌, length, slice_get, refl, sym, ap, ◌∙◌, arith, inl, inr, Some}
 use Rattle.std.proofs.lemmas.Bool.{cases_eq, false_from_ne_true}
-use Rattle.run_laws.proofs.ListFacts.{any_agree}
+use Rattle.run_core.proofs.Any.{any_agree}
 use Rattle.run_laws.proofs.PickFacts.{pick-push_left}
 use Rattle.run_laws.proofs.AncestorFacts.{reaches-lower}
 use Rattle.run_laws.proofs.ClosedParts.{length-clean_upto}

@@ -14,7 +14,7 @@ use Rattle.run_laws.specs.Effects.{Book}
 use Rattle.run_laws.specs.Clean.{skips, is_bad, seen, outcome, clean_upto, clean}
 use Rattle.run_laws.specs.Pairs.{is_good, EndsWell}
 use Rattle.run_laws.specs.CleanLaws.{HasFailedAbove, SkippedLaw, EndsLaw}
-use Rattle.run_laws.proofs.ListFacts.{all_both, any_gives, any_mono, all_members}
+use Rattle.run_core.proofs.Any.{all_both, any_gives, any_mono, all_members}
 use Rattle.run_laws.proofs.AncestorFacts.{reaches-enough, dep-above}
 use Rattle.run_laws.proofs.ClosedParts.{length-clean_upto, get_some}
 use Rattle.run_laws.proofs.EachFacts.{each_law_lem}

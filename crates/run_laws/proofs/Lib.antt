@@ -1,4 +1,3 @@
-pub mod ListFacts
 pub mod PickFacts
 pub mod AncestorFacts
 mod ClosedParts

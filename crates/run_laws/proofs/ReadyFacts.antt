@@ -3,7 +3,7 @@ use Rattle.std.proofs.Common.{◌≡◌, ℕ, zero, suc, ◌<◌, ◌&&◌, ◌|
 use mathlib.Core.Path.{fun_ext}
 use Rattle.std.specs.List.{list_any, AllByRecursion}
 use Rattle.std.proofs.lemmas.Bool.{cases_Bool, or_cases, or_left, or_right, and_parts, false≢true, true≢false, false_from_ne_true}
-use Rattle.run_laws.proofs.ListFacts.{get_or-map, any_at}
+use Rattle.run_core.proofs.Any.{get_or-map, any_at}
 use Rattle.std.proofs.lemmas.List.{length-map}
 use Rattle.run_laws.proofs.PickFacts.{shift, rank-lt, get_or-pick, length-pick, map-pick}
 use Rattle.run_laws.proofs.ClosedParts.{length-clean_upto}

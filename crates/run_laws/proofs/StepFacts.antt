@@ -21,7 +21,7 @@ use Rattle.run_laws.specs.Worlds.{seen_in, logged, Stage, Stages, is_finished, i
 use Rattle.globs.specs.OwnedFiles.{cleared, restored}
 use Rattle.run_laws.specs.WorldLaws.{IsReadyFor, StepsLaw, ShowsLaw, LeavesLaw}
 use Rattle.run_laws.specs.Worlds.Stage.{Untouched, Running, Finished}
-use Rattle.run_laws.proofs.ListFacts.{any_none, all_members}
+use Rattle.run_core.proofs.Any.{any_none, all_members}
 use Rattle.run_laws.proofs.AncestorFacts.{dep-above}
 use Rattle.run_laws.proofs.ClosedParts.{length-clean_upto}
 use Rattle.run_laws.proofs.EachFacts.{each_law_lem}

@@ -3,7 +3,7 @@ use Rattle.std.proofs.Common.{◌≡◌, ℕ, zero, suc, ◌<◌, ◌≤◌, Boo
 use Rattle.std.specs.List.{list_any, AllByRecursion}
 use Rattle.std.proofs.lemmas.Bool.{cases_Bool, or_cases, or_left, or_right}
 use Rattle.std.proofs.lemmas.List.{length-map}
-use Rattle.run_laws.proofs.ListFacts.{all_both, all_weaker, all-map, any-map}
+use Rattle.run_core.proofs.Any.{all_both, all_weaker, all-map, any-map}
 use Rattle.run_laws.proofs.PickFacts.{shift, rank-lt, rank-true, rank-false, rank-le, length-pick, map-pick}
 use Rattle.run_laws.proofs.AncestorFacts.{part-sub, closure-closed}
 use Rattle.run_laws.proofs.ClosedParts.{file_at-filter}

@@ -22,7 +22,7 @@ use Rattle.run_laws.specs.Clean.{has_external}
 use Rattle.run_laws.specs.Worlds.{owns, is_read, is_made, seen_in}
 use Rattle.run_laws.specs.ClosureLaws.{ClosureIsOrdered}
 use Rattle.run_laws.proofs.AncestorFacts.{reaches-lower}
-use Rattle.run_laws.proofs.ListFacts.{bool_same, any-map}
+use Rattle.run_core.proofs.Any.{bool_same, any-map}
 use Rattle.run_plan.specs.declared.plan.Plan.{Plan}
 use Rattle.run_plan.specs.Plans.{IsValidPlan}
 use Rattle.run_plan.specs.Commands.{outs_of, externals_of, command_of}

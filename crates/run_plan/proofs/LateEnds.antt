@@ -18,7 +18,7 @@ use Rattle.run_laws.specs.Ancestors.{is_above}
 use Rattle.run_laws.specs.Clean.{clean}
 use Rattle.run_laws.specs.Pairs.{IsGood, IsDue, is_good, due_pair}
 use Rattle.run_laws.specs.Runs.{Setting, clean_pair}
-use Rattle.run_laws.proofs.ListFacts.{all_weaker}
+use Rattle.run_core.proofs.Any.{all_weaker}
 use Rattle.run_plan.specs.declared.plan.Plan.{Plan}
 use Rattle.run_plan.specs.Answers.{AreLate}
 use Rattle.run_plan.specs.Openings.{Opening, setting_of}

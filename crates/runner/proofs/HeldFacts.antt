@@ -19,7 +19,7 @@ use Rattle.run_laws.specs.Closures.{names}
 use Rattle.run_laws.specs.ClosureLaws.{ClosureIsOrdered}
 use Rattle.run_laws.specs.Plans.{log_path}
 use Rattle.run_laws.specs.Worlds.{owns, is_made, is_read}
-use Rattle.run_laws.proofs.ListFacts.{any_at}
+use Rattle.run_core.proofs.Any.{any_at}
 use Rattle.run_plan.specs.declared.plan.Plan.{Plan}
 use Rattle.run_plan.specs.Commands.{command_of}
 use Rattle.run_plan.specs.Openings.{rules_of}

@@ -21,9 +21,9 @@ use Rattle.task_graph.specs.Plans.{is_open, IsFirst, Follow}
 use Rattle.task_graph.specs.Cycles as cycles
 use Rattle.task_graph.specs.Ways.{IsLeastNumber, StepsOn, AreOnce, IsWayOn, Circles}
 use Rattle.task_graph.proofs.Ids.{or_cases, or_left, or_right, and_first, and_second, has-append, at_same}
-use Rattle.task_graph.proofs.Marking.{same_place, from-in}
-use Rattle.task_graph.proofs.Numbers.{less_nat}
-use Rattle.task_graph.proofs.Order.{all_has}
+use Rattle.workspaces.proofs.Marking.{from-in}
+use Rattle.workspaces.proofs.Lists.{less_nat, nat_same}
+use Rattle.workspaces.proofs.Order.{all_has}
 use Rattle.task_graph.proofs.Placed.{less_back}
 use Rattle.task_graph.proofs.Peeling.{row_up}
 use Rattle.task_graph.proofs.Planned.{in_graph_at, number_of, has_map, mapped, below_member, row_below, deps_are, follow_is, order_below, in_order, left_is, all_map}
@@ -45,9 +45,9 @@ unfolding IsStrictlySortedBy
 found_least p [] b up found d is less = absurd (false≢true is)
 found_least p (x ∷ row) b up found d is less = by (p x) refl found (or_cases (x == d) (is_in row d) is) (found_least p row b up.1) where
   by : (t : Bool) → p x ≡ t → cond t (Some x) (find p row) ≡ Some b → ((x == d) ≡ true) ⊎ (is_in row d ≡ true) → (find p row ≡ Some b → (e : ℕ) → is_in row e ≡ true → e < b → p e ≡ false) → p d ≡ false
-  by true e found (inl here) further = let same : x ≡ b = cc in let this : x ≡ d = same_place x d here in absurd (omega (arith, same, this, less))
+  by true e found (inl here) further = let same : x ≡ b = cc in let this : x ≡ d = nat_same x d here in absurd (omega (arith, same, this, less))
   by true e found (inr later) further = let same : x ≡ b = cc in let above : x < d = less_nat x d (all_has (λ y. nat_cmp x y ≡ Less) row d up.0 (from-in row d later)) in absurd (omega (arith, same, above, less))
-  by false e found (inl here) further = subst (λ n. p n ≡ false) (same_place x d here) e
+  by false e found (inl here) further = subst (λ n. p n ≡ false) (nat_same x d here) e
   by false e found (inr later) further = further found d later less
 
 row_of_none : (rows : List (List ℕ)) (a : ℕ) (p : ℕ → Bool) (b : ℕ) → find p (row_at rows a) ≡ Some b → a < length rows

@@ -12,8 +12,8 @@ use Rattle.workspaces.specs.Lists.{places}
 use Rattle.workspaces.specs.Reach.{is_in}
 use Rattle.task_graph.specs.declared.slots.Slot.{Slot}
 use Rattle.task_graph.specs.Sorting.{Fits, slot_at, no_slot, settled}
-use Rattle.task_graph.proofs.Marking.{in_more}
-use Rattle.task_graph.proofs.Numbers.{nat_tied}
+use Rattle.workspaces.proofs.Marking.{in_more}
+use Rattle.workspaces.proofs.Lists.{nat_tied}
 
 abbrev pub first_slot : List ℕ → Slot
 first_slot row = record { unmet = length row; places = [] }

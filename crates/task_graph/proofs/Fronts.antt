@@ -19,7 +19,7 @@ use Rattle.task_graph.specs.Edges.{row_of, edges}
 use Rattle.task_graph.specs.Graphs.{IsClosed, AreTasks}
 use Rattle.task_graph.specs.Fronts.{AreRowsOf, Visits}
 use Rattle.task_graph.proofs.Ids.{or_cases, or_left, or_right, at_same, at_self, id_total, id_tied, has-from, from-has, has-append}
-use Rattle.task_graph.proofs.Order.{sorted-put_in, has-put_in, put_in-has}
+use Rattle.workspaces.proofs.Order.{sorted-put_in, has-put_in, put_in-has}
 
 -- ---- rows by their tasks
 

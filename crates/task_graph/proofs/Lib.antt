@@ -1,7 +1,4 @@
-mod Order
 mod Numbers
-mod Marking
-mod Turning
 mod Loops
 mod Answered
 mod Named

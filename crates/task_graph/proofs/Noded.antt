@@ -18,7 +18,7 @@ use Rattle.task_graph.specs.Inside.{IsWhole}
 use Rattle.task_graph.specs.Fronts.{AreRowsOf, nodes_by}
 use Rattle.std.specs.BTreeMap.{is_at}
 use Rattle.task_graph.proofs.Ids.{id_total, has-from, or_left, or_right, at_self}
-use Rattle.task_graph.proofs.Order.{sorted-ascending, all_from}
+use Rattle.workspaces.proofs.Order.{sorted-ascending, all_from}
 
 module _ (space : Space) (config : Setup) where
   nodes_rows : (ids : List TaskId) → nodes_by (map (λ id. (id, row_of space config id)) ids) ≡ nodes_of space config ids

@@ -18,10 +18,10 @@ use Rattle.task_graph.specs.declared.slots.Slot.{Slot}
 use Rattle.task_graph.specs.Rows.{AreRows}
 use Rattle.task_graph.specs.Sorting.{is_ready, IsNext, FollowRows, Fits, slot_at, settled}
 use Rattle.task_graph.proofs.Ids.{or_cases, or_left, or_right, and_first, and_second}
-use Rattle.task_graph.proofs.Marking.{in_more, same_place, self_place, from-in, in-from}
-use Rattle.task_graph.proofs.Numbers.{less_nat}
-use Rattle.task_graph.proofs.Order.{all_from, all_has}
-use Rattle.task_graph.proofs.Turning.{in-places, places-push}
+use Rattle.workspaces.proofs.Marking.{in_more, self_place, from-in, in-from}
+use Rattle.workspaces.proofs.Lists.{less_nat, nat_same}
+use Rattle.workspaces.proofs.Order.{all_from, all_has}
+use Rattle.workspaces.proofs.Turning.{in-places, places-push}
 use Rattle.task_graph.proofs.Counted.{at_number}
 use Rattle.task_graph.proofs.Placed.{length-more}
 
@@ -91,7 +91,7 @@ module _ (order : List ℕ) (next : ℕ) where
     by : (t : Bool) → (d == next) ≡ t → (t || is_in row next) ≡ true → (is_in row next ≡ true → count_by (left_of order) row ≡ 1 + count_by (left_of (order ++ next ∷ [])) row)
         → cond (left_of order d) 1 0 + count_by (left_of order) row ≡ 1 + (cond (left_of (order ++ next ∷ []) d) 1 0 + count_by (left_of (order ++ next ∷ [])) row)
     by true e some inner =
-        let same : d ≡ next = same_place d next e in
+        let same : d ≡ next = nat_same d next e in
         let old : left_of order d ≡ true = ap (λ n. not (is_in order n)) same ∙ ap not fresh in
         let here : is_in (order ++ next ∷ []) d ≡ true = in_more order next d ∙ or_right (is_in order d) (next == d) (subst (λ n. (next == n) ≡ true) (sym same) (self_place next)) in
         let new : left_of (order ++ next ∷ []) d ≡ false = ap not here in
@@ -113,7 +113,7 @@ pub all_member : (order row : List ℕ) (d : ℕ) → list_all (is_in order) row
 all_member order [] d all is = absurd (false≢true is)
 all_member order (x ∷ row) d all is = by (or_cases (x == d) (is_in row d) is) (all_member order row d (and_second (is_in order x) (list_all (is_in order) row) all)) where
   by : ((x == d) ≡ true) ⊎ (is_in row d ≡ true) → (is_in row d ≡ true → is_in order d ≡ true) → is_in order d ≡ true
-  by (inl here) further = subst (λ n. is_in order n ≡ true) (same_place x d here) (and_first (is_in order x) (list_all (is_in order) row) all)
+  by (inl here) further = subst (λ n. is_in order n ≡ true) (nat_same x d here) (and_first (is_in order x) (list_all (is_in order) row) all)
   by (inr later) further = further later
 
 -- ---- the order
@@ -213,7 +213,7 @@ module _ (rows : List (List ℕ)) (order : List ℕ) (slots : List Slot) (waits 
   next_inner n is = by (or_cases (is_in order n) (next == n) (sym (in_more order next n) ∙ is)) where
     by : (is_in order n ≡ true) ⊎ ((next == n) ≡ true) → (n < length rows) × (list_all (is_in (order ++ next ∷ [])) (row_at rows n) ≡ true)
     by (inl before) = let inner = peels.inner n before in (inner.0, all_grow order next (row_at rows n) inner.1)
-    by (inr here) = subst (λ m. (m < length rows) × (list_all (is_in (order ++ next ∷ [])) (row_at rows m) ≡ true)) (same_place next n here) (next_below, all_grow order next (row_at rows next) next_all)
+    by (inr here) = subst (λ m. (m < length rows) × (list_all (is_in (order ++ next ∷ [])) (row_at rows m) ≡ true)) (nat_same next n here) (next_below, all_grow order next (row_at rows next) next_all)
 
   -- there is room for it
   pub room : length order < length rows
@@ -280,7 +280,7 @@ module _ (rows : List (List ℕ)) (order : List ℕ) (slots : List Slot) (waits 
       nothing false b = refl
 
       by : (s : Bool) → (next == n) ≡ s → (t : Bool) → is_in (row_at rows n) next ≡ t → (cond s false (waits n) || (t && list_all (is_in (order ++ next ∷ [])) (row_at rows n))) ≡ is_ready rows (order ++ next ∷ []) n
-      by true e true f = absurd (false≢true (sym next_apart ∙ subst (λ m. is_in (row_at rows m) next ≡ true) (sym (same_place next n e)) f))
+      by true e true f = absurd (false≢true (sym next_apart ∙ subst (λ m. is_in (row_at rows m) next ≡ true) (sym (nat_same next n e)) f))
       by true e false f = sym (rw (in_more order next n, e, or_true (is_in order n)) (nothing (nat_lt n (length rows)) (list_all (is_in (order ++ next ∷ [])) (row_at rows n))))
       by false e true f =
           let was : waits n ≡ false = peels.ready n ∙ rw (not_all f) (none (nat_lt n (length rows)) (not (is_in order n))) in

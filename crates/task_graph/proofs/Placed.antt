@@ -1,19 +1,18 @@
 -- Tasks of a graph by their numbers.
 use Rattle.std.proofs.Common.{◌≡◌, ◌+◌, ◌<◌, ℕ, zero, suc, List, [], ◌∷◌, ◌++◌, length, get_or, map, refl, sym, ap, ◌∙◌, subst, arith, ◌⊎◌, inl, inr}
 use Rattle.std.specs.List.{AllByRecursion}
-use Rattle.workspaces.specs.Reach.{AreBelow}
+use Rattle.workspaces.specs.Reach.{AreBelow, row_at}
 use Rattle.turbo_config.specs.declared.task_id.TaskId.{TaskId}
 use Rattle.task_graph.specs.declared.node.Node.{Node}
 use Rattle.std.specs.List.Sorted.{IsStrictlySortedBy}
 use Rattle.std.specs.declared.cmp.Ordering.TheVariants.{Less, Equal}
 use Rattle.std.specs.Ordering.{nat_cmp}
 use Rattle.std.proofs.lemmas.Bool.{cases_order}
-use Rattle.workspaces.specs.Reach.{row_at}
 use Rattle.task_graph.specs.Ids.{id_cmp}
 use Rattle.task_graph.specs.Nodes.{ids_of}
 use Rattle.task_graph.specs.Rows.{id_at, deps_at}
 use Rattle.task_graph.proofs.Ids.{id_total, id_tied, not_itself, not_twice}
-use Rattle.task_graph.proofs.Numbers.{nat_less}
+use Rattle.workspaces.proofs.Lists.{nat_less}
 use Rattle.task_graph.proofs.Searching.{rises}
 
 pub id-get : (nodes : List Node) (i : ℕ) (d : Node) → i < length nodes → id_at nodes i ≡ (get_or nodes i d).id

@@ -14,7 +14,7 @@ use Rattle.task_graph.specs.Ids.{id_cmp, has}
 use Rattle.task_graph.specs.Nodes.{ids_of, is_in_graph, deps_of}
 use Rattle.task_graph.specs.Plans.{is_open, Follow, IsPlan, places_of}
 use Rattle.task_graph.proofs.Ids.{id_eq, id_equiv, id_ties, id_same, at_self, at_same, has-append, or_left, or_right, or_cases, and_first, and_second}
-use Rattle.task_graph.proofs.Numbers.{sorted-places}
+use Rattle.workspaces.proofs.Lists.{sorted-places}
 
 module _ (nodes : List Node) where
   in_graph : (before : List TaskId) (id : TaskId) → is_open nodes before id ≡ true → is_in_graph nodes id ≡ true

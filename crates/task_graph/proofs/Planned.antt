@@ -20,11 +20,12 @@ use Rattle.task_graph.specs.Rows.{id_at, deps_at, AreRows, IsNumbered}
 use Rattle.task_graph.specs.Sorting.{is_ready, IsNext, FollowRows, IsSorted, slot_at, is_left}
 use Rattle.task_graph.specs.Plans.{is_open, IsFirst, Follow, IsPlan, places_of}
 use Rattle.task_graph.proofs.Ids.{or_cases, or_left, or_right, and_first, and_second, id_total, id_tied, at_same, at_self, not_itself}
-use Rattle.task_graph.proofs.Marking.{in_more, same_place, self_place}
+use Rattle.workspaces.proofs.Marking.{in_more, self_place}
+use Rattle.workspaces.proofs.Lists.{nat_same}
 use Rattle.task_graph.proofs.Placed.{id-less, less_back, tied_id, map-more, length-more, below-more}
 use Rattle.task_graph.proofs.Searching.{any_at}
 use Rattle.task_graph.proofs.Peeling.{all_none, all_member, below_of}
-use Rattle.task_graph.proofs.Turning.{places-map}
+use Rattle.workspaces.proofs.Turning.{places-map}
 
 -- the node of a task is found by it
 deps_found : (nodes : List Node) → IsStrictlySortedBy id_cmp (ids_of nodes) → (i : ℕ) → i < length nodes → deps_of nodes (id_at nodes i) ≡ deps_at nodes i
@@ -90,7 +91,7 @@ module _ (nodes : List Node) (w : IsWhole nodes) where
   below_member [] below p is = absurd (false≢true is)
   below_member (q ∷ ps) below p is = by (or_cases (q == p) (is_in ps p) is) (below_member ps below.1 p) where
     by : ((q == p) ≡ true) ⊎ (is_in ps p ≡ true) → (is_in ps p ≡ true → p < length nodes) → p < length nodes
-    by (inl here) further = subst (λ m. m < length nodes) (same_place q p here) below.0
+    by (inl here) further = subst (λ m. m < length nodes) (nat_same q p here) below.0
     by (inr later) further = further later
 
   module _ (rows : List (List ℕ)) (are : AreRows rows) (num : IsNumbered nodes rows) where
@@ -221,7 +222,7 @@ fresh_later rows before (n ∷ ns) follow y is = by (or_cases (n == y) (is_in ns
   earlier false e = refl
 
   by : ((n == y) ≡ true) ⊎ (is_in ns y ≡ true) → (is_in ns y ≡ true → is_in (before ++ n ∷ []) y ≡ false) → is_in before y ≡ false
-  by (inl here) further = subst (λ m. is_in before m ≡ false) (same_place n y here) fresh
+  by (inl here) further = subst (λ m. is_in before m ≡ false) (nat_same n y here) fresh
   by (inr later) further = earlier (is_in before y) (sym (in_more before n y) ∙ further later)
 
 -- the places of what a task depends on are lower than its own

@@ -17,7 +17,7 @@ use Rattle.task_graph.specs.Graphs.{AreTasks, nodes_of, IsGraphFrom, MeansFrom, 
 use Rattle.task_graph.specs.Plans.{is_open, IsFirst, Follow, IsPlanOrder}
 use Rattle.task_graph.specs.Cycles.{IsCycle, is_left, IsWay, Steps}
 use Rattle.task_graph.proofs.Ids.{id_total, id_tied, has-from, from-has, has-append, and_first, and_second}
-use Rattle.task_graph.proofs.Order.{same_ascending}
+use Rattle.workspaces.proofs.Order.{same_ascending}
 use Rattle.task_graph.proofs.Circling.{within_taken}
 
 -- ---- one graph

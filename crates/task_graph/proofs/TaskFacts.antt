@@ -23,7 +23,7 @@ use Rattle.task_graph.specs.Edges.{edges, upstream, needed_by, only, text_tasks,
 use Rattle.task_graph.specs.Nodes.{ids_of}
 use Rattle.task_graph.specs.Graphs.{IsGraphFrom, MeansFrom, Means}
 use Rattle.task_graph.proofs.Ids.{id_total, from-has, has-from, and_first}
-use Rattle.task_graph.proofs.Order.{all_has, all_from, has-ascending}
+use Rattle.workspaces.proofs.Order.{all_has, all_from, has-ascending}
 use Rattle.task_graph.proofs.Named.{chosen_below}
 use Rattle.task_graph.proofs.Noded.{ids_are}
 

@@ -12,8 +12,8 @@ use Rattle.workspaces.specs.Space.{Space, root_package, owners, IsOwnerAt}
 use Rattle.task_graph.specs.Ids.{task_id}
 use Rattle.task_graph.specs.Tasks.{tasks_in, has_def}
 use Rattle.task_graph.specs.Edges.{upstream, needed_by}
-use Rattle.task_graph.proofs.Order.{all_from}
-use Rattle.task_graph.proofs.Numbers.{has-places}
+use Rattle.workspaces.proofs.Order.{all_from}
+use Rattle.workspaces.proofs.Lists.{has-places}
 use Rattle.task_graph.proofs.Named.{by_places, owner_held, are_owners}
 use Rattle.std.proofs.lemmas.Bool.{false≢true}
 

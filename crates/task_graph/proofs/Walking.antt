@@ -11,7 +11,8 @@ use Rattle.task_graph.specs.declared.slots.Slot.{Slot}
 use Rattle.task_graph.specs.Cycles.{Chain, IsWay}
 use Rattle.task_graph.specs.Sorting.{is_left}
 use Rattle.task_graph.specs.Ways.{IsLeastNumber, from_first, StepsOn, AreOnce, IsWayOn, Circles}
-use Rattle.task_graph.proofs.Marking.{in_more, marked-set, same_place}
+use Rattle.workspaces.proofs.Marking.{in_more, marked-set}
+use Rattle.workspaces.proofs.Lists.{nat_same}
 
 -- ---- ways
 
@@ -84,7 +85,7 @@ split_first task [] is = absurd (false≢true is)
 split_first task (x ∷ path) is = by (x == task) refl is (split_first task path) where
   by : (t : Bool) → (x == task) ≡ t → (t || is_in path task) ≡ true → (is_in path task ≡ true → (front : List ℕ) × (rest : List ℕ) × (from_first task path ≡ task ∷ rest) × (path ≡ front ++ task ∷ rest))
       → (front : List ℕ) × (rest : List ℕ) × (cond t (x ∷ path) (from_first task path) ≡ task ∷ rest) × (x ∷ path ≡ front ++ task ∷ rest)
-  by true e is inner = let same : x ≡ task = same_place x task e in ([], path, ap (λ y. y ∷ path) same, ap (λ y. y ∷ path) same)
+  by true e is inner = let same : x ≡ task = nat_same x task e in ([], path, ap (λ y. y ∷ path) same, ap (λ y. y ∷ path) same)
   by false e is inner = let r = inner is in (x ∷ r.0, r.1, r.2, ap (λ ys. x ∷ ys) r.3)
 
 pub comes_back : (rows : List (List ℕ)) (left : ℕ → Bool) (path : List ℕ) (seen : List Bool) (task : ℕ) → OnWay rows left path seen (Some task) → is_marked seen task ≡ true → Circles rows left (from_first task path)

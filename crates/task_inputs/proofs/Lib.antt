@@ -1,7 +1,7 @@
 mod Prefixes
 mod Names
 mod Lone
-mod Homes
+pub mod Homes
 mod Places
 mod ReadTasks
 mod Rows

@@ -1,11 +1,11 @@
-mod Order
+pub mod Order
 mod Names
-mod Lists
+pub mod Lists
 mod Trims
 mod Loops
 mod Globs
-mod Marking
-mod Turning
+pub mod Marking
+pub mod Turning
 mod ReadIn
 mod Below
 mod Sorting

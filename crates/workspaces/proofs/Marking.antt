@@ -2,14 +2,14 @@
 use Rattle.std.proofs.Common.{◌≡◌, ◌≢◌, ◌==◌, ◌||◌, ◌⊎◌, inl, inr, ℕ, zero, suc, ◌+◌, ◌<◌, Bool, true, false, cond, List, [], ◌∷◌, ◌++◌, length, set, refl, sym, ap, ◌∙◌, subst, arith, eqb, ne_eqb, length-append}
 use Rattle.std.proofs.Math.ListN.{length-set}
 use Rattle.std.proofs.lemmas.Bool.{false≢true}
-use Rattle.std.proofs.lemmas.Bool.Decides.{eqb_tells, nat_tests}
+use Rattle.std.proofs.lemmas.Bool.Decides.{eqb_tells}
 use Rattle.std.proofs.lemmas.List.Folds.{list_any-append}
 use Rattle.workspaces.specs.Lists.{places, Has}
 use Rattle.std.specs.Prelude.{replicate}
 use Rattle.std.proofs.Common.{get_or}
 use Rattle.workspaces.specs.Reach.{is_in, IsClosed, IsReached, row_at, leads_in, AreBelow, AreRowsBelow}
 use Rattle.workspaces.specs.Marks.{itself, is_marked, unmarked, Adds}
-use Rattle.workspaces.proofs.Lists.{has-places, places-has, sorted-places}
+use Rattle.workspaces.proofs.Lists.{nat_same, has-places, places-has, sorted-places}
 
 or_cases : (a b : Bool) → (a || b) ≡ true → (a ≡ true) ⊎ (b ≡ true)
 or_cases true b e = inl refl
@@ -33,9 +33,6 @@ or_false false = refl
 pub in_more : (ps : List ℕ) (p q : ℕ) → is_in (ps ++ p ∷ []) q ≡ (is_in ps q || (p == q))
 in_more ps p q = list_any-append (λ r. r == q) ps (p ∷ []) ∙ ap (λ t. is_in ps q || t) (or_false (p == q))
 
-same_place : (p q : ℕ) → (p == q) ≡ true → p ≡ q
-same_place p q e = grind (arith, nat_tests, e)
-
 pub self_place : (p : ℕ) → (p == p) ≡ true
 self_place p = by (eqb_tells p p) where
   by : ((eqb p p ≡ true) × (p ≡ p)) ⊎ ((eqb p p ≡ false) × (p ≢ p)) → (p == p) ≡ true
@@ -53,14 +50,14 @@ same_suc p q = by (eqb_tells p q) where
   by (inl same) = rw (same.1, self_place q, self_place (suc q)) refl
   by (inr other) = rw (other.0, other_place (suc p) (suc q) (λ e. other.1 (omega (arith, e)))) refl
 
-marked-set : (marks : List Bool) (at q : ℕ) → at < length marks → is_marked (set marks at true) q ≡ (is_marked marks q || (at == q))
+pub marked-set : (marks : List Bool) (at q : ℕ) → at < length marks → is_marked (set marks at true) q ≡ (is_marked marks q || (at == q))
 marked-set [] at q less = absurd (omega arith)
 marked-set (m ∷ marks) zero zero less = sym (or_right m true refl)
 marked-set (m ∷ marks) zero (suc q) less = rw (other_place 0 (suc q) (λ e. absurd (omega (arith, e)))) (sym (or_false (is_marked marks q)))
 marked-set (m ∷ marks) (suc at) zero less = rw (other_place (suc at) 0 (λ e. absurd (omega (arith, e)))) (sym (or_false m))
 marked-set (m ∷ marks) (suc at) (suc q) less = marked-set marks at q (omega arith) ∙ ap (λ t. is_marked marks q || t) (same_suc at q)
 
-unmarked-set : (marks : List Bool) (at : ℕ) → at < length marks → is_marked marks at ≡ false → unmarked (set marks at true) + 1 ≡ unmarked marks
+pub unmarked-set : (marks : List Bool) (at : ℕ) → at < length marks → is_marked marks at ≡ false → unmarked (set marks at true) + 1 ≡ unmarked marks
 unmarked-set [] at less free = absurd (omega arith)
 unmarked-set (m ∷ marks) zero less free = rw free (omega arith)
 unmarked-set (m ∷ marks) (suc at) less free = by m (unmarked-set marks at (omega arith) free) where
@@ -132,7 +129,7 @@ module _ (rows : List (List ℕ)) (from : List ℕ) where
   } where
     start : (a q : ℕ) → (is_in done a ≡ true) ⊎ ((p == a) ≡ true) → leads_in rows a q ≡ true → is_marked new q ≡ true
     start a q (inl was) lead = adds.marks q ∙ or_left (is_marked marks q) (is_in (row_at rows p) q) (before.start a q was lead)
-    start a q (inr here) lead = adds.marks q ∙ or_right (is_marked marks q) (is_in (row_at rows p) q) (subst (λ w. leads_in rows w q ≡ true) (sym (same_place p a here)) lead)
+    start a q (inr here) lead = adds.marks q ∙ or_right (is_marked marks q) (is_in (row_at rows p) q) (subst (λ w. leads_in rows w q ≡ true) (sym (nat_same p a here)) lead)
 
     front : (a q : ℕ) → (is_marked marks a ≡ true) ⊎ (is_in new_waiting a ≡ true) → leads_in rows a q ≡ true → (is_marked new q ≡ true) ⊎ (is_in new_waiting a ≡ true)
     front a q (inl was) lead = elim (before.front a q was lead) [ inl marked ↦ inl (adds.marks q ∙ or_left (is_marked marks q) (is_in (row_at rows p) q) marked) | inr waiting ↦ inr (adds.kept a waiting) ]
@@ -157,7 +154,7 @@ module _ (rows : List (List ℕ)) (from : List ℕ) where
   } where
     again : (a q : ℕ) → (is_in waiting a ≡ true) ⊎ ((p == a) ≡ true) → leads_in rows a q ≡ true → (is_marked new q ≡ true) ⊎ (is_in new_waiting a ≡ true)
     again a q (inl still) lead = inr (adds.kept a still)
-    again a q (inr here) lead = inl (adds.marks q ∙ or_right (is_marked marks q) (is_in (row_at rows p) q) (subst (λ w. leads_in rows w q ≡ true) (sym (same_place p a here)) lead))
+    again a q (inr here) lead = inl (adds.marks q ∙ or_right (is_marked marks q) (is_in (row_at rows p) q) (subst (λ w. leads_in rows w q ≡ true) (sym (nat_same p a here)) lead))
 
     front : (a q : ℕ) → (is_marked marks a ≡ true) ⊎ (is_in new_waiting a ≡ true) → leads_in rows a q ≡ true → (is_marked new q ≡ true) ⊎ (is_in new_waiting a ≡ true)
     front a q (inl was) lead = elim (before.front a q was lead) [ inl marked ↦ inl (adds.marks q ∙ or_left (is_marked marks q) (is_in (row_at rows p) q) marked) | inr waits ↦ again a q (or_cases (is_in waiting a) (p == a) (sym (in_more waiting p a) ∙ waits)) lead ]
@@ -190,7 +187,7 @@ in-from (x ∷ xs) q (inr later) = or_right (x == q) (is_in xs q) (in-from xs q 
 
 pub from-in : (xs : List ℕ) (q : ℕ) → is_in xs q ≡ true → Has xs q
 from-in [] q is = absurd (false≢true is)
-from-in (x ∷ xs) q is = elim (or_cases (x == q) (is_in xs q) is) [ inl here ↦ inl (same_place x q here) | inr later ↦ inr (from-in xs q later) ]
+from-in (x ∷ xs) q is = elim (or_cases (x == q) (is_in xs q) is) [ inl here ↦ inl (nat_same x q here) | inr later ↦ inr (from-in xs q later) ]
 
 further : (marks : List Bool) (q p : ℕ) → (is_marked marks q ≡ true) ⊎ (is_in [] p ≡ true) → is_marked marks q ≡ true
 further marks q p (inl is) = is

@@ -64,7 +64,7 @@ module _ {X : Type 0} (R : X → X → Ordering) (o : IsTotalOrder R) where
 
   -- ---- putting in
 
-  has-put_in : (x : X) (ys : List X) (z : X) → Has (put_in R x ys) z → (x ≡ z) ⊎ Has ys z
+  pub has-put_in : (x : X) (ys : List X) (z : X) → Has (put_in R x ys) z → (x ≡ z) ⊎ Has ys z
   has-put_in x [] z has = has
   has-put_in x (y ∷ ys) z has = by (R x y) refl has (has-put_in x ys z) where
     by : (r : Ordering) → R x y ≡ r → Has (match_ordering r (x ∷ y ∷ ys) (y ∷ ys) (y ∷ put_in R x ys)) z → (Has (put_in R x ys) z → (x ≡ z) ⊎ Has ys z) → (x ≡ z) ⊎ Has (y ∷ ys) z
@@ -73,7 +73,7 @@ module _ {X : Type 0} (R : X → X → Ordering) (o : IsTotalOrder R) where
     by Greater e (inl here) inner = inr (inl here)
     by Greater e (inr later) inner = elim (inner later) [ inl here ↦ inl here | inr old ↦ inr (inr old) ]
 
-  put_in-has : (x : X) (ys : List X) → ((y : X) → Has ys y → R x y ≡ Equal → x ≡ y) → (z : X) → (x ≡ z) ⊎ Has ys z → Has (put_in R x ys) z
+  pub put_in-has : (x : X) (ys : List X) → ((y : X) → Has ys y → R x y ≡ Equal → x ≡ y) → (z : X) → (x ≡ z) ⊎ Has ys z → Has (put_in R x ys) z
   put_in-has x [] same z has = has
   put_in-has x (y ∷ ys) same z has = by (R x y) refl has (put_in-has x ys (λ w later. same w (inr later)) z) where
     by : (r : Ordering) → R x y ≡ r → (x ≡ z) ⊎ Has (y ∷ ys) z → ((x ≡ z) ⊎ Has ys z → Has (put_in R x ys) z) → Has (match_ordering r (x ∷ y ∷ ys) (y ∷ ys) (y ∷ put_in R x ys)) z
@@ -90,7 +90,7 @@ module _ {X : Type 0} (R : X → X → Ordering) (o : IsTotalOrder R) where
   turned : (x y : X) → R x y ≡ Greater → R y x ≡ Less
   turned x y more = let back : R y x ≡ ordering_reverse (R x y) = o.antisymm y x in rw more at back
 
-  sorted-put_in : (x : X) (ys : List X) → IsStrictlySortedBy R ys → IsStrictlySortedBy R (put_in R x ys)
+  pub sorted-put_in : (x : X) (ys : List X) → IsStrictlySortedBy R ys → IsStrictlySortedBy R (put_in R x ys)
   unfolding IsStrictlySortedBy
   sorted-put_in x [] up = (tt, tt)
   sorted-put_in x (y ∷ ys) up = by (R x y) refl (sorted-put_in x ys up.1) where

@@ -1,6 +1,6 @@
 use Rattle.std.proofs.Common.{◌≡◌, ◌++◌, ◌∷◌, ◌+◌, [], arith, take, get_or}
 use Rattle.std.proofs.lemmas.List.{take_more}
-use Rattle.filters.proofs.Places.{below_at}
+use Rattle.workspaces.proofs.Marking.{below_at}
 use Rattle.filters.proofs.Marking.{mark_more}
 use Rattle.filters.proofs.marks.mark.Goals as goal
 

@@ -5,7 +5,8 @@ use Rattle.std.proofs.lemmas.List.{with_items_is}
 use Rattle.workspaces.specs.Lists.{places}
 use Rattle.workspaces.specs.Marks.{itself}
 use Rattle.workspaces.specs.Reach.{AreBelow}
-use Rattle.filters.proofs.Places.{below_places, sorted-places}
+use Rattle.filters.proofs.Places.{below_places}
+use Rattle.workspaces.proofs.Lists.{sorted-places}
 use Rattle.filters.proofs.Taking.{chosen_by}
 use Rattle.filters.proofs.selection.chosen.Goals as goal
 

@@ -3,7 +3,7 @@ use Rattle.std.specs.Prelude.{replicate}
 use Rattle.std.proofs.lemmas.List.{length-replicate, with_items_is}
 use Rattle.workspaces.specs.Marks.{itself}
 use Rattle.workspaces.specs.Reach.{AreBelow}
-use Rattle.filters.proofs.Marking.{none_marked}
+use Rattle.workspaces.proofs.Marking.{none_marked}
 use Rattle.filters.proofs.Places.{below_places}
 use Rattle.filters.proofs.Taking.{takes_by, marked_places}
 use Rattle.filters.proofs.taken.taken.Goals as goal

@@ -1,4 +1,4 @@
-use Rattle.kept_packages.proofs.Indexing.{number_put}
+use Rattle.task_inputs.proofs.Homes.{number_put}
 use Rattle.kept_packages.proofs.folders.add_folder.Goals as goal
 
 pub returns-clause-added : goal.returns-clause-added

@@ -1,7 +1,7 @@
 use Rattle.std.proofs.Common.{◌≡◌, ◌∙◌, ◌++◌, ◌∷◌, ◌+◌, ◌<◌, [], true, false, sym, arith, length, take, get_or}
 use Rattle.std.proofs.lemmas.List.{take_more}
 use Rattle.workspaces.specs.Marks.{is_marked}
-use Rattle.kept_packages.proofs.Marking.{adds_old, adds_new, marked-get, below_at}
+use Rattle.workspaces.proofs.Marking.{adds_old, adds_new, marked-get, below_at}
 use Rattle.kept_packages.proofs.front.add.Goals as goal
 use Rattle.kept_packages.proofs.front.add.Goals.{then-not-index+in_ok-push, else-not-index}
 

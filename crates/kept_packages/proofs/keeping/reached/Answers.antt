@@ -8,7 +8,7 @@ use Rattle.workspaces.specs.Space.{owners}
 use Rattle.workspaces.proofs.Owners.{owners_count}
 use Rattle.repository.specs.Reading.{contents_of}
 use Rattle.kept_packages.specs.Needs.{Leads, Needs}
-use Rattle.kept_packages.proofs.Marking.{none_marked}
+use Rattle.workspaces.proofs.Marking.{none_marked}
 use Rattle.kept_packages.proofs.Reaching.{waiting_below, gained_below, began, stepped, ended}
 use Rattle.kept_packages.proofs.keeping.reached.Goals as goal
 

@@ -5,7 +5,7 @@ use Rattle.workspaces.specs.Marks.{is_marked}
 use Rattle.workspaces.specs.Reach.{row_at}
 use Rattle.task_graph.specs.Sorting.{is_left}
 use Rattle.task_graph.specs.Ways.{Circles, AreOnce, from_first}
-use Rattle.task_graph.proofs.Marking.{none_marked, marked-get, row-get, unmarked-set}
+use Rattle.workspaces.proofs.Marking.{none_marked, marked-get, row-get, unmarked-set}
 use Rattle.task_graph.proofs.Walking.{OnWay, Goes, starts, on_way_more, comes_back, left_within}
 use Rattle.task_graph.proofs.cycle.cycle.Goals as goal
 

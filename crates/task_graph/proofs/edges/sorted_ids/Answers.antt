@@ -1,7 +1,7 @@
 use Rattle.std.proofs.Common.{◌∙◌}
 use Rattle.std.proofs.lemmas.List.Filters.{dedup_is}
 use Rattle.task_graph.specs.Ids.{id_cmp}
-use Rattle.task_graph.proofs.Order.{sorted_once}
+use Rattle.workspaces.proofs.Order.{sorted_once}
 use Rattle.task_graph.proofs.Ids.{id_total, id_equiv, id_ties, id_same}
 use Rattle.task_graph.proofs.edges.sorted_ids.Goals as goal
 

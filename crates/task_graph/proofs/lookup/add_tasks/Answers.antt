@@ -3,7 +3,7 @@ use Rattle.workspaces.specs.Space.{owners}
 use Rattle.workspaces.specs.Steps.{name_at}
 use Rattle.task_graph.specs.Ids.{task_id}
 use Rattle.task_graph.specs.Tasks.{has_def}
-use Rattle.task_graph.proofs.Marking.{below_at}
+use Rattle.workspaces.proofs.Marking.{below_at}
 use Rattle.task_graph.proofs.Named.{held_name}
 use Rattle.task_graph.proofs.TaskLists.{tasks_added, tasks_passed}
 use Rattle.task_graph.proofs.lookup.add_tasks.Goals as goal

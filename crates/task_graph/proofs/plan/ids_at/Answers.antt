@@ -1,7 +1,7 @@
 use Rattle.std.proofs.Common.{◌≡◌, ◌+◌, ◌++◌, ◌∷◌, [], take, get_or, length, sym, refl, ◌∙◌}
 use Rattle.std.proofs.lemmas.List.{take_more}
 use Rattle.task_graph.specs.Rows.{id_at}
-use Rattle.task_graph.proofs.Marking.{below_at}
+use Rattle.workspaces.proofs.Marking.{below_at}
 use Rattle.task_graph.proofs.Placed.{id-get, map-more}
 use Rattle.task_graph.proofs.plan.ids_at.Goals as goal
 

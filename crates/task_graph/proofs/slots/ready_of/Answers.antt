@@ -3,7 +3,7 @@ use Rattle.std.specs.List.{list_all}
 use Rattle.std.specs.Ordering.{nat_cmp}
 use Rattle.std.specs.BTreeSet.{contains}
 use Rattle.workspaces.specs.Reach.{is_in, row_at}
-use Rattle.task_graph.proofs.Marking.{row-get}
+use Rattle.workspaces.proofs.Marking.{row-get}
 use Rattle.task_graph.proofs.Counted.{ready_more, ready_same, all_of_none, none_of_some}
 use Rattle.task_graph.proofs.slots.ready_of.Goals as goal
 use Rattle.task_graph.proofs.slots.ready_of.Goals.{then-is_empty+in_ok-insert, else-is_empty}

@@ -4,7 +4,7 @@ use Rattle.std.proofs.lemmas.List.{take_more}
 use Rattle.workspaces.specs.Reach.{is_in}
 use Rattle.task_graph.specs.declared.slots.Slot.{Slot}
 use Rattle.task_graph.specs.Sorting.{slot_at, settled}
-use Rattle.task_graph.proofs.Marking.{below_at, in_at}
+use Rattle.workspaces.proofs.Marking.{below_at, in_at}
 use Rattle.task_graph.proofs.Numbers.{fresh_at}
 use Rattle.task_graph.proofs.Counted.{slot-get, settled_more}
 use Rattle.task_graph.proofs.slots.settle.Goals as goal

@@ -4,8 +4,8 @@ use Rattle.std.specs.BTreeSet.{contains}
 use Rattle.workspaces.specs.Reach.{is_in, row_at}
 use Rattle.std.specs.BTreeMap.{is_at}
 use Rattle.task_graph.specs.Sorting.{slot_at, settled}
-use Rattle.task_graph.proofs.Marking.{row-get}
-use Rattle.task_graph.proofs.Numbers.{sorted-places}
+use Rattle.workspaces.proofs.Marking.{row-get}
+use Rattle.workspaces.proofs.Lists.{sorted-places}
 use Rattle.task_graph.proofs.Placed.{length-more}
 use Rattle.task_graph.proofs.Peeling.{Peels, peels_first, peels_more, next_below, room, users_open, users_are, users_below, none_below}
 use Rattle.task_graph.proofs.sorting.sorted.Goals as goal
