@@ -15,7 +15,7 @@ use Rattle.workspaces.specs.Space.{root_package, owners, manifest_in, manifest_n
 use Rattle.turbo_config.specs.declared.entry.TaskDef.{TaskDef}
 use Rattle.turbo_config.specs.Setup.{Setup, task_def}
 use Rattle.task_inputs.specs.Homes.{is_declared, is_home}
-use Rattle.task_inputs.specs.Entries.{is_default_entry, entry_of, entries_of, has_default, rest_where, matches_from, any_reaches, is_wide, any_wide}
+use Rattle.input_entries.specs.Entries.{is_default_entry, entry_of, entries_of, has_default, rest_where, matches_from, any_reaches, is_wide, any_wide}
 use Rattle.task_inputs.specs.Ignores.{is_left_out}
 use Rattle.task_inputs.specs.Inputs.{is_default, rest_in, is_explicit, is_asked, is_global, may_count, config_in, always_counts, is_input, is_asked_from_root, is_far_input}
 use Rattle.task_inputs.specs.Rooted.{IsRooted}

@@ -15,11 +15,11 @@ use Rattle.workspaces.specs.Lists.{Has}
 use Rattle.workspaces.specs.declared.member.Package.{Package}
 use Rattle.turbo_config.specs.declared.entry.TaskDef.{TaskDef}
 use Rattle.turbo_config.specs.Setup.{Setup, task_def, is_name, is_among, AreNames}
-use Rattle.task_inputs.specs.declared.entries.InputGlob.{InputGlob}
-use Rattle.task_inputs.specs.declared.entries.InputList.{InputList}
+use Rattle.input_entries.specs.declared.entries.InputGlob.{InputGlob}
+use Rattle.input_entries.specs.declared.entries.InputList.{InputList}
 use Rattle.task_inputs.specs.declared.tasks.TaskGlobs.{TaskGlobs}
 use Rattle.task_inputs.specs.Homes.{home_of, is_home}
-use Rattle.task_inputs.specs.Entries.{any_wide, any_reaches, is_wide, rest_where}
+use Rattle.input_entries.specs.Entries.{any_wide, any_reaches, is_wide, rest_where}
 use Rattle.globs.specs.Match.{matches}
 use Rattle.task_inputs.specs.Folders.{AreHomes}
 use Rattle.task_inputs.specs.Inputs.{is_asked_from_root, may_count, is_global}

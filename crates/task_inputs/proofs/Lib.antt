@@ -1,4 +1,3 @@
-mod Prefixes
 mod Names
 mod Lone
 pub mod Homes

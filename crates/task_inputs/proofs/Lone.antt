@@ -1,10 +1,8 @@
 -- The configured tasks of a package, each by itself.
-use Rattle.std.proofs.Common.{◌≡◌, ℕ, ◌+◌, ◌<◌, length, get_or, take, Bool, true, false, cond, List, [], ◌∷◌, ◌++◌, map, filter, refl, sym, ap, ◌∙◌, ◌||◌}
-use Rattle.std.specs.Prelude.{Option, Some, None, not, ◌&&◌, option_to_list}
+use Rattle.std.proofs.Common.{◌≡◌, ℕ, Bool, true, false, cond, List, [], ◌∷◌, map, filter, refl, ap, ◌∙◌, ◌||◌}
+use Rattle.std.specs.Prelude.{Option, Some, None, not, ◌&&◌}
 use Rattle.std.specs.Option.{option_map}
 use Rattle.std.specs.List.{filter_map, cons_option, list_any}
-use Rattle.std.proofs.lemmas.List.{take_more}
-use Rattle.std.proofs.lemmas.List.Elements.{filter_map-append}
 use Rattle.rel_path.specs.Paths.{Path, name_eq}
 use Rattle.globs.specs.declared.out_set.OutSet.{OutSet}
 use Rattle.globs.specs.Outputs.{takes, declares, any_declares}
@@ -54,16 +52,3 @@ others_of task (t ∷ ts) = by (name_eq t.task task) (others_of task ts) where
   by : (b : Bool) → rest_of task ts ≡ others_than task (map as_configured ts) → map (λ (u : LoneTask). u.outs.mine) (cond (not b) (t ∷ filter (λ (u : LoneTask). not (name_eq u.task task)) ts) (filter (λ (u : LoneTask). not (name_eq u.task task)) ts)) ≡ map (λ (u : Configured). u.outputs) (cond (not b) (as_configured t ∷ filter (λ (u : Configured). not (name_eq u.task task)) (map as_configured ts)) (filter (λ (u : Configured). not (name_eq u.task task)) (map as_configured ts)))
   by true more = more
   by false more = ap (λ ls. t.outs.mine ∷ ls) more
-
--- one more
-pub filter_map_more : {X Y : Type 0} (f : X → Option Y) (xs : List X) (i : ℕ) (x : X) → i < length xs → x ≡ get_or xs i x → filter_map f (take (i + 1) xs) ≡ filter_map f (take i xs) ++ option_to_list (f x)
-filter_map_more f xs i x less is =
-    ap (filter_map f) (take_more xs i x less) ∙ filter_map-append f (take i xs) (get_or xs i x ∷ []) ∙ ap (λ y. filter_map f (take i xs) ++ cons_option (f y) []) (sym is) ∙ ap (λ ys. filter_map f (take i xs) ++ ys) (none (f x))
-  where
-    none : {Y : Type 0} (o : Option Y) → cons_option o [] ≡ option_to_list o
-    none None = refl
-    none (Some y) = refl
-
--- what was found for one more is put at the end
-pub added : {X Y : Type 0} (f : X → Option Y) (xs : List X) (i : ℕ) (x : X) (found : Option Y) (old new : List Y) → i < length xs → x ≡ get_or xs i x → old ≡ filter_map f (take i xs) → found ≡ f x → new ≡ old ++ option_to_list found → new ≡ filter_map f (take (i + 1) xs)
-added f xs i x found old new less is before value more = more ∙ ap (λ ys. ys ++ option_to_list found) before ∙ ap (λ o. filter_map f (take i xs) ++ option_to_list o) value ∙ sym (filter_map_more f xs i x less is)

@@ -1,23 +1,8 @@
--- The names of a path below a folder.
-use Rattle.std.proofs.Common.{◌≡◌, ℕ, refl, sym, ◌++◌, List, [], ◌∷◌, ◌∙◌, ap, Bool, true, false, subst}
-use Rattle.std.specs.Prelude.{Some, ◌&&◌, IsTrue}
-use Rattle.std.specs.List.{list_all}
+-- The last name of a path.
+use Rattle.std.proofs.Common.{◌≡◌, ℕ, refl, sym, ◌++◌, List, [], ◌∷◌, ◌∙◌, ap, Bool, true, false}
 use Rattle.std.proofs.lemmas.Bool.{false≢true}
-use Rattle.rel_path.specs.Paths.{Path, name_eq, path_eq, strip, AreNames, is_component}
-use Rattle.rel_path.proofs.PathLaws.{strip_is, name_same, name_self, path_same, path_self, path_other}
-
-and_behind : (a b : Bool) → IsTrue (a && b) → IsTrue b
-and_behind true b e = e
-and_behind false b e = cc
-
-names_after : (folder rest : Path) → AreNames (folder ++ rest) → AreNames rest
-names_after [] rest names = names
-names_after (f ∷ fs) rest names = names_after fs rest (and_behind (is_component f) (list_all is_component (fs ++ rest)) names)
-
-pub names_behind : (folder path rest : Path) → strip folder path ≡ Some rest → AreNames path → AreNames rest
-names_behind folder path rest e names = names_after folder rest (subst AreNames (strip_is folder path rest e) names)
-
--- ---- the last name
+use Rattle.rel_path.specs.Paths.{Path, name_eq, path_eq}
+use Rattle.rel_path.proofs.PathLaws.{name_same, name_self, path_same, path_self, path_other}
 
 snoc_same : (a b : Path) (x y : List ℕ) → a ++ x ∷ [] ≡ b ++ y ∷ [] → (a ≡ b) × (x ≡ y)
 snoc_same [] [] x y e = (refl, cc)

@@ -5,7 +5,7 @@ use Rattle.std.proofs.lemmas.Option.{slice_get-get_or}
 use Rattle.rel_path.specs.Paths.{Path}
 use Rattle.workspaces.specs.declared.member.Package.{Package}
 use Rattle.task_inputs.specs.declared.definitions.DefinedTask.{DefinedTask}
-use Rattle.task_inputs.specs.declared.entries.InputList.{InputList}
+use Rattle.input_entries.specs.declared.entries.InputList.{InputList}
 use Rattle.task_inputs.specs.Facts.{IsRead, IsList}
 
 pub task_read : (members : List Package) (t : DefinedTask) (folder copy : Path) (inputs : Option InputList) → t.owner < length members → ((d : Package) → folder ≡ (get_or members t.owner d).folder) → copy ≡ folder → IsList t.def.inputs inputs

@@ -14,15 +14,15 @@ use Rattle.workspaces.specs.Lists.{places}
 use Rattle.workspaces.specs.Space.{is_home_of, is_root_folder, manifest_in, manifest_name}
 use Rattle.turbo_config.specs.Setup.{Setup}
 use Rattle.task_inputs.specs.declared.definitions.DefinedTask.{DefinedTask}
-use Rattle.task_inputs.specs.declared.entries.Base.{Base}
-use Rattle.task_inputs.specs.declared.entries.Base.TheVariants.{Root, Owner}
-use Rattle.task_inputs.specs.declared.entries.InputGlob.{InputGlob}
-use Rattle.task_inputs.specs.declared.entries.InputList.{InputList}
+use Rattle.input_entries.specs.declared.entries.Base.{Base}
+use Rattle.input_entries.specs.declared.entries.Base.TheVariants.{Root, Owner}
+use Rattle.input_entries.specs.declared.entries.InputGlob.{InputGlob}
+use Rattle.input_entries.specs.declared.entries.InputList.{InputList}
 use Rattle.task_inputs.specs.declared.files.FileFacts.{FileFacts}
 use Rattle.task_inputs.specs.declared.table.Table.{Table}
 use Rattle.task_inputs.specs.declared.tasks.TaskGlobs.{TaskGlobs}
 use Rattle.task_inputs.specs.Homes.{Home, home_of, folders_of, is_declared, is_home}
-use Rattle.task_inputs.specs.Entries.{entries_of, has_default, rest_where, matches_from, any_reaches, is_wide, any_wide}
+use Rattle.input_entries.specs.Entries.{entries_of, has_default, rest_where, matches_from, any_reaches, is_wide, any_wide}
 use Rattle.task_inputs.specs.Inputs.{may_count, is_input, is_asked, is_explicit, is_default, is_global, always_counts, input_row, row_of}
 use Rattle.task_inputs.specs.Facts.{place_by, home_place, may_count_in, fact_by, is_at, IsList, IsRead, asked_by, takes_by, merged, AreHomesBelow}
 use Rattle.task_inputs.specs.Tables.{unknown, takes_at, IsTable, close, looked, IsLooked, IsRowOf}

@@ -9,10 +9,10 @@ use Rattle.rel_path.specs.Paths.{Path}
 use Rattle.rel_path.proofs.PathLaws.{path_same}
 use Rattle.globs.specs.Match.{matches}
 use Rattle.workspaces.specs.Lists.{places}
-use Rattle.task_inputs.specs.declared.entries.InputGlob.{InputGlob}
-use Rattle.task_inputs.specs.declared.entries.InputList.{InputList}
+use Rattle.input_entries.specs.declared.entries.InputGlob.{InputGlob}
+use Rattle.input_entries.specs.declared.entries.InputList.{InputList}
 use Rattle.task_inputs.specs.declared.wide.Wide.{Wide}
-use Rattle.task_inputs.specs.Entries.{entries_of, is_wide, any_wide}
+use Rattle.input_entries.specs.Entries.{entries_of, is_wide, any_wide}
 use Rattle.task_inputs.specs.Facts.{IsList, is_wide_list}
 use Rattle.task_inputs.specs.WideLists.{AreWide, has_inputs, places_of, places_by, wide_by}
 use Rattle.task_inputs.proofs.Places.{each_at, none_pass}

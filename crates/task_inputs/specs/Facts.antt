@@ -8,11 +8,11 @@ use Rattle.workspaces.specs.Lists.{places}
 use Rattle.workspaces.specs.Space.{is_home_of, is_root_folder, manifest_in}
 use Rattle.globs.specs.Lists.{list_takes}
 use Rattle.task_inputs.specs.declared.files.FileFacts.{FileFacts}
-use Rattle.task_inputs.specs.declared.entries.InputList.{InputList}
+use Rattle.input_entries.specs.declared.entries.InputList.{InputList}
 use Rattle.task_inputs.specs.declared.tasks.TaskGlobs.{TaskGlobs}
 use Rattle.task_inputs.specs.declared.definitions.DefinedTask.{DefinedTask}
 use Rattle.task_inputs.specs.Homes.{Home, folders_of, declared_in}
-use Rattle.task_inputs.specs.Entries.{entries_of, has_default, rest_where, any_reaches, is_wide}
+use Rattle.input_entries.specs.Entries.{entries_of, has_default, rest_where, any_reaches, is_wide}
 use Rattle.task_inputs.specs.Inputs.{config_in}
 
 -- ---- of a file

@@ -10,7 +10,7 @@ use Rattle.turbo_config.specs.declared.entry.TaskDef.{TaskDef}
 use Rattle.turbo_config.specs.Setup.{Setup}
 use Rattle.task_inputs.specs.declared.definitions.DefinedTask.{DefinedTask}
 use Rattle.task_inputs.specs.Homes.{is_home, is_declared}
-use Rattle.task_inputs.specs.Entries.{entries_of, has_default, rest_where, any_reaches, any_wide}
+use Rattle.input_entries.specs.Entries.{entries_of, has_default, rest_where, any_reaches, any_wide}
 
 -- ---- what a task asks for
 

@@ -1,6 +1,5 @@
 pub mod Homes
 pub mod Lone
-pub mod Entries
 pub mod Inputs
 pub mod Folders
 pub mod Facts

@@ -7,10 +7,10 @@ use Rattle.workspaces.specs.Lists.{Has}
 use Rattle.workspaces.specs.declared.member.Package.{Package}
 use Rattle.turbo_config.specs.declared.entry.TaskDef.{TaskDef}
 use Rattle.turbo_config.specs.Setup.{Setup, task_def, is_name}
-use Rattle.task_inputs.specs.declared.entries.InputList.{InputList}
+use Rattle.input_entries.specs.declared.entries.InputList.{InputList}
 use Rattle.task_inputs.specs.declared.tasks.TaskGlobs.{TaskGlobs}
 use Rattle.task_inputs.specs.Homes.{Home}
-use Rattle.task_inputs.specs.Entries.{any_wide, any_reaches, rest_where}
+use Rattle.input_entries.specs.Entries.{any_wide, any_reaches, rest_where}
 use Rattle.task_inputs.specs.Inputs.{is_far_input}
 use Rattle.task_inputs.specs.Facts.{IsRead, home_place, is_at, may_count_in}
 

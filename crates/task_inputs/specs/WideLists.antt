@@ -4,9 +4,9 @@ use Rattle.std.specs.List.{slice_get, AllByRecursion}
 use Rattle.std.specs.Cmp.Lexicographic.{pointwise}
 use Rattle.rel_path.specs.Paths.{Path, name_eq}
 use Rattle.workspaces.specs.Lists.{places}
-use Rattle.task_inputs.specs.declared.entries.InputList.{InputList}
+use Rattle.input_entries.specs.declared.entries.InputList.{InputList}
 use Rattle.task_inputs.specs.declared.wide.Wide.{Wide}
-use Rattle.task_inputs.specs.Entries.{entries_of, any_wide}
+use Rattle.input_entries.specs.Entries.{entries_of, any_wide}
 
 -- a glob of the root in the list matches the path
 abbrev pub wide_by : Option InputList → Path → Bool

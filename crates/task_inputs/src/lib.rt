@@ -19,11 +19,9 @@
 mod configured;
 mod declared;
 mod definitions;
-mod entries;
 mod files;
 mod from_root;
 mod inputs;
-mod relative;
 mod table;
 mod tasks;
 mod union;

@@ -2,14 +2,13 @@
 ghost use Rattle.std.specs.Prelude.{◌≡◌, ◌<◌, ◌&&◌, length, IfOk};
 ghost use Rattle.listing.specs.Memory.{OnlyMemory};
 ghost use Rattle.workspaces.specs.Space.{owners};
-ghost use Rattle.task_inputs.specs.Entries.{rest_where};
+ghost use Rattle.input_entries.specs.Entries.{rest_where};
 ghost use Rattle.task_inputs.specs.Facts.{IsList, IsRead, asks_by, is_at, is_default_at, is_wide_list, takes_by};
 ghost use Rattle.task_inputs.specs.Rooted.{far_by};
 
 use crate::definitions::DefinedTask;
-use crate::entries::{InputList, any_reaches, any_wide, has_wide};
 use crate::files::{FileFacts, is_file_in};
-use crate::relative::rest_where;
+use input_entries::{InputList, any_reaches, any_wide, has_wide, rest_where};
 use listing::ListErr;
 use rel_path::{RelPath, Texts};
 use std::alloc::Global;

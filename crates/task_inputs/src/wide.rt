@@ -2,12 +2,12 @@
 ghost use Rattle.std.specs.Prelude.{◌≡◌, ◌<◌, ◌^◌, length, position, IfOk, IfSome, OnOk, Some};
 ghost use Rattle.listing.specs.Memory.{OnlyMemory};
 ghost use Rattle.workspaces.specs.Lists.{places};
-ghost use Rattle.task_inputs.specs.Entries.{any_wide, entries_of};
+ghost use Rattle.input_entries.specs.Entries.{any_wide, entries_of};
 ghost use Rattle.task_inputs.specs.Facts.{IsList};
 ghost use Rattle.task_inputs.specs.WideLists.{AreWide, has_inputs, places_by, wide_by};
 
-use crate::entries::{InputGlob, InputList, any_wide, has_wide};
 use crate::files::add_place;
+use input_entries::{InputGlob, InputList, any_wide, has_wide};
 use listing::ListErr;
 use rel_path::{RelPath, Texts};
 use std::alloc::Global;

@@ -1,5 +1,5 @@
 use Rattle.task_inputs.specs.Lone.{lone_by}
-use Rattle.task_inputs.proofs.Lone.{added}
+use Rattle.input_entries.proofs.Added.{added}
 use Rattle.task_inputs.proofs.configured.tasks_of.Goals as goal
 
 pub loop-script-preserved : goal.loop-script-preserved

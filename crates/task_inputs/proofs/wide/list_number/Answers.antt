@@ -1,6 +1,6 @@
 use Rattle.std.proofs.Common.{◌∙◌, sym, ap}
 use Rattle.std.specs.List.{list_any}
-use Rattle.task_inputs.specs.Entries.{is_wide}
+use Rattle.input_entries.specs.Entries.{is_wide}
 use Rattle.task_inputs.specs.Facts.{is_wide_list}
 use Rattle.task_inputs.proofs.WideLists.{thin_places, default_places}
 use Rattle.task_inputs.proofs.wide.list_number.Goals as goal

@@ -1,8 +1,8 @@
 use Rattle.std.proofs.Common.{◌≡◌, ◌∙◌, sym, ap, length, List}
 use Rattle.std.specs.Prelude.{Some, position}
 use Rattle.workspaces.specs.Lists.{places}
-use Rattle.task_inputs.specs.declared.entries.InputGlob.{InputGlob}
-use Rattle.task_inputs.specs.Entries.{any_wide}
+use Rattle.input_entries.specs.declared.entries.InputGlob.{InputGlob}
+use Rattle.input_entries.specs.Entries.{any_wide}
 use Rattle.task_inputs.specs.WideLists.{has_inputs, places_by}
 use Rattle.task_inputs.proofs.WideLists.{known_right, put_last}
 use Rattle.task_inputs.proofs.wide.number_of.Goals as goal

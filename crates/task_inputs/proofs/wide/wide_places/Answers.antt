@@ -1,6 +1,6 @@
 use Rattle.std.proofs.Common.{◌∙◌, ◌++◌, ◌∷◌, [], sym, ap, cond, take, List, ℕ, Bool}
 use Rattle.workspaces.specs.Lists.{places}
-use Rattle.task_inputs.specs.Entries.{any_wide}
+use Rattle.input_entries.specs.Entries.{any_wide}
 use Rattle.task_inputs.proofs.Places.{no_places, places_more}
 use Rattle.task_inputs.proofs.wide.wide_places.Goals as goal
 

@@ -1,6 +1,6 @@
 use Rattle.std.proofs.Common.{◌≡◌, take}
 use Rattle.workspaces.specs.Lists.{places}
-use Rattle.task_inputs.specs.Entries.{any_wide}
+use Rattle.input_entries.specs.Entries.{any_wide}
 use Rattle.task_inputs.proofs.wide.wide_places.Given as goal
 
 -- the places so far

@@ -7,9 +7,9 @@ use Rattle.glob_syntax.specs.declared.part.Part.{Part}
 use Rattle.glob_syntax.specs.Reading.{glob_from}
 use Rattle.globs.specs.Match.{matches}
 use Rattle.globs.specs.Lists.{is_kind}
-use Rattle.task_inputs.specs.declared.entries.Base.{Base}
-use Rattle.task_inputs.specs.declared.entries.Base.TheVariants.{Root, Owner}
-use Rattle.task_inputs.specs.declared.entries.InputGlob.{InputGlob}
+use Rattle.input_entries.specs.declared.entries.Base.{Base}
+use Rattle.input_entries.specs.declared.entries.Base.TheVariants.{Root, Owner}
+use Rattle.input_entries.specs.declared.entries.InputGlob.{InputGlob}
 
 -- ---- reading an entry
 

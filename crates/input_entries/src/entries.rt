@@ -4,7 +4,7 @@ ghost use Rattle.std.specs.List.{list_any};
 ghost use Rattle.std.specs.Str.{chars};
 ghost use Rattle.glob_syntax.specs.Reading.{glob_from};
 ghost use Rattle.listing.specs.Memory.{OnlyMemory};
-ghost use Rattle.task_inputs.specs.Entries.{is_default_entry, has_default, entry_of, entries_of, glob_entry, is_wide, any_wide, matches_from, any_reaches};
+ghost use Rattle.input_entries.specs.Entries.{is_default_entry, has_default, entry_of, entries_of, glob_entry, is_wide, any_wide, matches_from, any_reaches};
 
 use globs::Glob;
 use listing::ListErr;
@@ -13,25 +13,30 @@ use std::alloc::Global;
 
 /// What a glob is relative to.
 #[derive(Clone, Copy, Debug)]
-pub(crate) enum Base {
+pub enum Base {
     /// The root folder.
     Root,
     /// The folder of the task's owner.
     Owner,
 }
 
-/// A glob of a list of inputs, and whether it excludes.
+/// A glob of a list of inputs.
 #[derive(Debug, Drop)]
-pub(crate) struct InputGlob {
+pub struct InputGlob {
+    /// What it is relative to.
     pub base: Base,
+    /// Whether what it matches is left out.
     pub excluded: bool,
+    /// What it matches below its base.
     pub glob: Glob,
 }
 
-/// A list of inputs: its globs, and whether the default set is among them.
+/// A list of inputs.
 #[derive(Debug, Drop)]
-pub(crate) struct InputList {
+pub struct InputList {
+    /// Its globs, in the order of the list.
     pub globs: Vec<InputGlob>,
+    /// Whether the default files are among them.
     pub has_default: bool,
 }
 
@@ -102,7 +107,8 @@ fn add_entry(globs: &mut Vec<InputGlob>, entry: Option<InputGlob>) -> Result<(),
 }
 
 impl InputList {
-    /// The list that the texts write.
+    /// The list that the texts write. Each text is a glob or stands for the default files: lists of inputs are
+    /// checked where the file that has them is read.
     pub fn read(alloc: Global, texts: &Texts) -> Result<InputList, ListErr>
         ensures globs { IfOk result (λ list. list.globs.items ≡ entries_of texts.now) }
         ensures default { IfOk result (λ list. list.has_default ≡ has_default texts.now) }
@@ -130,7 +136,7 @@ fn is_wide(entry: &InputGlob) -> bool
 }
 
 /// Whether some entry that does not exclude is relative to the root.
-pub(crate) fn has_wide(globs: &[InputGlob]) -> bool
+pub fn has_wide(globs: &[InputGlob]) -> bool
     ensures { result ≡ list_any is_wide globs.now }
 {
     globs.iter().any(|entry| is_wide(entry))
@@ -138,7 +144,7 @@ pub(crate) fn has_wide(globs: &[InputGlob]) -> bool
 
 /// Whether an entry of the root that does not exclude matches the path.
 #[tactic(auto, unfolding(crate::specs::Entries::any_wide))]
-pub(crate) fn any_wide(globs: &[InputGlob], path: &RelPath) -> bool
+pub fn any_wide(globs: &[InputGlob], path: &RelPath) -> bool
     ensures { result ≡ any_wide globs.now path.now }
 {
     globs
@@ -157,9 +163,10 @@ fn reaches(entry: &InputGlob, path: &RelPath, below: &Option<RelPath>) -> bool
     }
 }
 
-/// Whether an entry that excludes, or one that does not, matches the path.
+/// Whether an entry that excludes, or one that does not, matches the path. `below` is what is left of the path below
+/// the owner's folder, where it is one of the owner's files (`rest_where`).
 #[tactic(auto, unfolding(crate::specs::Entries::any_reaches))]
-pub(crate) fn any_reaches(
+pub fn any_reaches(
     excluded: bool,
     globs: &[InputGlob],
     path: &RelPath,

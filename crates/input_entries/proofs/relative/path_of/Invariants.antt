@@ -1,5 +1,5 @@
 use Rattle.std.proofs.Common.{◌≡◌, take}
-use Rattle.task_inputs.proofs.relative.path_of.Given as goal
+use Rattle.input_entries.proofs.relative.path_of.Given as goal
 
 -- the names so far
 abbrev pub invariant-loop-name : goal.invariant-loop-name

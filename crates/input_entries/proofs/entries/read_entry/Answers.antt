@@ -1,9 +1,9 @@
 use Rattle.std.proofs.Common.{◌≡◌, ◌∙◌, sym, ap, false, true, drop, eqb}
 use Rattle.std.specs.Prelude.{codes}
 use Rattle.std.specs.List.{starts_with}
-use Rattle.task_inputs.specs.Entries.{entry_of, is_default_entry}
-use Rattle.task_inputs.proofs.Prefixes.{no_prefix, marked}
-use Rattle.task_inputs.proofs.entries.read_entry.Goals as goal
+use Rattle.input_entries.specs.Entries.{entry_of, is_default_entry}
+use Rattle.input_entries.proofs.Prefixes.{no_prefix, marked}
+use Rattle.input_entries.proofs.entries.read_entry.Goals as goal
 
 pub returns-in-Some-strip_prefix-2-clause-value : goal.returns-in-Some-strip_prefix-2-clause-value
 unfolding entry_of

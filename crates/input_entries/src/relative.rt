@@ -2,7 +2,7 @@
 ghost use Rattle.std.specs.Prelude.{◌≡◌, IfOk, MatchOption, None, Some};
 ghost use Rattle.rel_path.specs.Paths.{strip, AreNames};
 ghost use Rattle.listing.specs.Memory.{OnlyMemory};
-ghost use Rattle.task_inputs.specs.Entries.{relative, rest_where};
+ghost use Rattle.input_entries.specs.Entries.{relative, rest_where};
 
 use listing::ListErr;
 use rel_path::{RelPath, Text};
@@ -40,8 +40,8 @@ fn relative(alloc: Global, folder: &RelPath, path: &RelPath) -> Result<Option<Re
     }
 }
 
-/// The same where the path is one of the folder's own files, and nothing elsewhere.
-pub(crate) fn rest_where(
+/// What is left of the path below the folder where the path is one of the folder's own files, and nothing elsewhere.
+pub fn rest_where(
     alloc: Global,
     own: bool,
     folder: &RelPath,

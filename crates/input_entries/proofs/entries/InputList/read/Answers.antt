@@ -1,7 +1,7 @@
-use Rattle.task_inputs.specs.Entries.{entry_of}
+use Rattle.input_entries.specs.Entries.{entry_of}
 use Rattle.std.proofs.Common.{◌∙◌, ap}
-use Rattle.task_inputs.proofs.Lone.{added}
-use Rattle.task_inputs.proofs.entries.InputList.read.Goals as goal
+use Rattle.input_entries.proofs.Added.{added}
+use Rattle.input_entries.proofs.entries.InputList.read.Goals as goal
 
 pub loop-text-preserved : goal.loop-text-preserved
 loop-text-preserved c =

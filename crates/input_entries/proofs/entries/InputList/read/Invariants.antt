@@ -1,6 +1,6 @@
 use Rattle.std.proofs.Common.{◌≡◌, take}
-use Rattle.task_inputs.specs.Entries.{entries_of}
-use Rattle.task_inputs.proofs.entries.InputList.read.Given as goal
+use Rattle.input_entries.specs.Entries.{entries_of}
+use Rattle.input_entries.proofs.entries.InputList.read.Given as goal
 
 -- the globs of the texts so far
 abbrev pub invariant-loop-text : goal.invariant-loop-text

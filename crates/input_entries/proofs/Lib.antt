@@ -1,0 +1,3 @@
+pub mod Added
+mod Behind
+mod Prefixes
