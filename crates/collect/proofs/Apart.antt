@@ -20,8 +20,8 @@ use Rattle.workspaces.specs.Edges.{text_by}
 use Rattle.workspaces.specs.Space.{Space, owners, is_proper, lies_below, manifest_in, manifest_name}
 use Rattle.turbo_config.specs.declared.entry.TaskDef.{TaskDef}
 use Rattle.turbo_config.specs.Names.{is_task_name, is_reserved, is_nothing, begins_caret}
-use Rattle.turbo_config.specs.Setup.{Setup, task_def}
-use Rattle.turbo_config.specs.Laws.{DefinitionLaw}
+use Rattle.task_definitions.specs.Setup.{Setup, task_def}
+use Rattle.task_definitions.specs.Laws.{DefinitionLaw}
 use Rattle.listing.specs.declared.part.Part.{Part}
 use Rattle.listing.specs.declared.part.Listing.{Listing}
 use Rattle.run_laws.specs.Ancestors.{blank, part_at, has_script, is_nil}

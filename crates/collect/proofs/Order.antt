@@ -13,7 +13,7 @@ use Rattle.rel_path.specs.Files.{FileMap, file_at, has}
 use Rattle.rel_path.proofs.PathLaws.{path_same}
 use Rattle.spawn_dev.specs.Orders.{IsAscending, IsBefore, AscendByPath}
 use Rattle.workspaces.specs.Space.{Space, owner_named}
-use Rattle.turbo_config.specs.Setup.{Setup}
+use Rattle.task_definitions.specs.Setup.{Setup}
 use Rattle.listing.specs.declared.part.Part.{Part}
 use Rattle.listing.specs.declared.part.Listing.{Listing}
 use Rattle.run_laws.specs.Ancestors.{blank}

@@ -4,7 +4,7 @@ use Rattle.std.specs.Prelude.{not}
 use Rattle.rel_path.specs.Paths.{Path, path_eq, is_among}
 use Rattle.rel_path.proofs.PathLaws.{path_self}
 use Rattle.workspaces.specs.declared.member.Package.{Package}
-use Rattle.turbo_config.specs.Setup.{Setup}
+use Rattle.task_definitions.specs.Setup.{Setup}
 use Rattle.task_inputs.specs.Homes.{Home, home_of, declared_in}
 use Rattle.task_inputs.specs.Ignores.{is_ignore_file, rule_files}
 

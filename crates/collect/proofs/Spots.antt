@@ -6,7 +6,7 @@ use Rattle.std.proofs.lemmas.Bool.{false≢true, eqb-true, eq-eqb}
 use Rattle.rel_path.specs.Paths.{Path}
 use Rattle.workspaces.specs.Lists.{places}
 use Rattle.workspaces.specs.declared.member.Package.{Package}
-use Rattle.turbo_config.specs.Setup.{Setup}
+use Rattle.task_definitions.specs.Setup.{Setup}
 use Rattle.task_inputs.specs.declared.definitions.DefinedTask.{DefinedTask}
 use Rattle.task_inputs.specs.Inputs.{is_input, input_row, row_of}
 use Rattle.collect.specs.Steps.{marked, in_row, inputs_at}

@@ -16,7 +16,7 @@ use Rattle.workspaces.specs.declared.member.Package.{Package}
 use Rattle.workspaces.specs.Lists.{places}
 use Rattle.workspaces.specs.Space.{Space, owners, owner_named, manifest_in, manifest_name}
 use Rattle.turbo_config.specs.declared.entry.TaskDef.{TaskDef}
-use Rattle.turbo_config.specs.Setup.{Setup}
+use Rattle.task_definitions.specs.Setup.{Setup}
 use Rattle.listing.specs.declared.part.Part.{Part}
 use Rattle.task_inputs.specs.declared.definitions.DefinedTask.{DefinedTask}
 use Rattle.task_inputs.specs.Homes.{Home, home_of, is_declared}

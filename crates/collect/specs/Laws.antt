@@ -8,7 +8,7 @@ use Rattle.rel_path.specs.Files.{FileMap, file_at}
 use Rattle.tree_walk.specs.Walked.{is_open}
 use Rattle.spawn_dev.specs.Orders.{IsAscending}
 use Rattle.workspaces.specs.Space.{Space, AreWalked}
-use Rattle.turbo_config.specs.Setup.{Setup}
+use Rattle.task_definitions.specs.Setup.{Setup}
 use Rattle.listing.specs.declared.part.Listing.{Listing}
 use Rattle.run_laws.specs.Closures.{names}
 use Rattle.run_laws.specs.Valid.{IsOrdered}

@@ -8,7 +8,7 @@ use Rattle.rel_path.specs.Files.{FileMap}
 use Rattle.workspaces.specs.declared.member.Package.{Package}
 use Rattle.workspaces.specs.Space.{Space, owner_named}
 use Rattle.turbo_config.specs.declared.entry.TaskDef.{TaskDef}
-use Rattle.turbo_config.specs.Setup.{Setup, task_def}
+use Rattle.task_definitions.specs.Setup.{Setup, task_def}
 use Rattle.listing.specs.declared.part.Listing.{Listing}
 use Rattle.collect.specs.declared.wanted.Wanted.{Wanted}
 use Rattle.collect.specs.Parts.{IsPart, takes_input}

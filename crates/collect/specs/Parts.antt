@@ -13,7 +13,7 @@ use Rattle.workspaces.specs.Edges.{text_by, needs_of}
 use Rattle.workspaces.specs.Lists.{ascending}
 use Rattle.workspaces.specs.Space.{Space, owners, owner_named, is_root_folder}
 use Rattle.turbo_config.specs.declared.entry.TaskDef.{TaskDef}
-use Rattle.turbo_config.specs.Setup.{Setup, task_def}
+use Rattle.task_definitions.specs.Setup.{Setup, task_def}
 use Rattle.globs.specs.declared.out_set.OutSet.{OutSet}
 use Rattle.folder_globs.specs.Exclusions.{exclusion}
 use Rattle.listing.specs.declared.part.Part.{Part}

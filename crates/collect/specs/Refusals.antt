@@ -9,7 +9,7 @@ use Rattle.npm_lock.specs.declared.error.ExtErr.TheVariants.{Missing as missing_
 use Rattle.npm_lock.specs.Externals.{Externals}
 use Rattle.workspaces.specs.declared.member.Package.{Package}
 use Rattle.workspaces.specs.Space.{Space, owners, owner_named}
-use Rattle.turbo_config.specs.Setup.{Setup}
+use Rattle.task_definitions.specs.Setup.{Setup}
 use Rattle.listing.specs.declared.part.Listing.{Listing}
 use Rattle.task_inputs.specs.Ignores.{rule_files}
 use Rattle.collect.specs.declared.wanted.Wanted.{Wanted}

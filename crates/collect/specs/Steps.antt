@@ -17,7 +17,7 @@ use Rattle.workspaces.specs.Edges.{needs_of}
 use Rattle.workspaces.specs.Space.{Space, IsProper, owners, owner_named}
 use Rattle.turbo_config.specs.declared.entry.TaskDef.{TaskDef}
 use Rattle.turbo_config.specs.declared.task_id.TaskId.{TaskId}
-use Rattle.turbo_config.specs.Setup.{Setup, task_def}
+use Rattle.task_definitions.specs.Setup.{Setup, task_def}
 use Rattle.listing.specs.declared.part.Part.{Part}
 use Rattle.task_inputs.specs.declared.definitions.DefinedTask.{DefinedTask}
 use Rattle.task_inputs.specs.Homes.{Home, home_of, others_than}

@@ -4,7 +4,7 @@ use Rattle.workspaces.specs.declared.member.Package.{Package}
 use Rattle.workspaces.specs.Space.{Space, owner_named}
 use Rattle.turbo_config.specs.declared.entry.TaskDef.{TaskDef}
 use Rattle.turbo_config.specs.declared.task_id.TaskId.{TaskId}
-use Rattle.turbo_config.specs.Setup.{Setup, task_def}
+use Rattle.task_definitions.specs.Setup.{Setup, task_def}
 
 -- the task's package is there, or it is the root's, and the task has a definition
 pub record IsDefined (setup : Setup) (space : Space) (id : TaskId) : Type 0 where

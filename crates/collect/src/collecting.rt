@@ -37,9 +37,9 @@ use npm_lock::Lock;
 use rel_path::limits::MAX_INPUT_BYTES;
 use rel_path::{Files, Pairs, Paths, Places, Text, Texts};
 use std::alloc::Global;
+use task_definitions::Config;
 use task_inputs::{Declared, DefinedTask, input_places};
 use tree_dev::Tree;
-use turbo_config::Config;
 use workspaces::Packages;
 
 /// What is known before a file is read: the tasks by their owners' numbers and definitions, the installed packages that

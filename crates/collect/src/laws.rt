@@ -6,7 +6,7 @@ ghost use Rattle.collect.specs.Laws.{ListingLaw};
 pub fn listing_law()
     ensures { ListingLaw }
 {
-    turbo_config::definition_law();
+    task_definitions::definition_law();
     folder_globs::exclusion_law();
     run_laws::log_law();
 }

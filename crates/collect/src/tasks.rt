@@ -7,8 +7,9 @@ ghost use Rattle.collect.specs.Steps.{OnlyMemory, IsTaskOf};
 
 use crate::{CollectErr, Wanted};
 use std::alloc::Global;
+use task_definitions::Config;
 use task_inputs::DefinedTask;
-use turbo_config::{Config, TaskDef, TaskId};
+use turbo_config::{TaskDef, TaskId};
 use workspaces::Packages;
 
 /// The task by its owner's number and its definition.

@@ -43,7 +43,7 @@ use Rattle.turbo_config.specs.declared.task_id.TaskId.{TaskId}
 use Rattle.turbo_config.specs.Entries.{no_keys, def_of}
 use Rattle.turbo_config.specs.Files.{no_globals}
 use Rattle.turbo_config.specs.Names.{is_root_name, is_task_name}
-use Rattle.turbo_config.specs.Setup.{Setup, setup_of, script_entry, is_script_task, task_def, is_name}
+use Rattle.task_definitions.specs.Setup.{Setup, setup_of, script_entry, is_script_task, task_def, is_name}
 use Rattle.filters.specs.Selection.{is_in_core}
 use Rattle.filters.specs.Words.{filter_of, behind, before, core_of}
 use Rattle.task_graph.specs.declared.node.Node.{Node}

@@ -10,7 +10,7 @@ use Rattle.rel_path.specs.Paths.{name_eq}
 use Rattle.workspaces.specs.declared.member.Package.{Package}
 use Rattle.workspaces.specs.Lists.{Has}
 use Rattle.workspaces.specs.Space.{Space, owners}
-use Rattle.turbo_config.specs.Setup.{Setup}
+use Rattle.task_definitions.specs.Setup.{Setup}
 use Rattle.kept_packages.specs.Kept.{names_package, is_target}
 use Rattle.kept_packages.specs.Needs.{IsAmong, IsOf, Gains, Leads, IsTarget}
 use Rattle.kept_packages.specs.Steps.{NamesOwner, AnyTaskNames, IsWrittenIn, IsHomeIn}

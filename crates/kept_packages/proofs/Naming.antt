@@ -14,7 +14,7 @@ use Rattle.workspaces.specs.declared.member.Package.{Package}
 use Rattle.workspaces.specs.Space.{Space, IsProper, root_name}
 use Rattle.workspaces.specs.Steps.{IsNoName, IsNamedAt}
 use Rattle.turbo_config.specs.declared.entry.TaskDef.{TaskDef}
-use Rattle.turbo_config.specs.Setup.{Setup, task_def}
+use Rattle.task_definitions.specs.Setup.{Setup, task_def}
 use Rattle.task_inputs.specs.Homes.{Configured, configured_by, configured_in}
 use Rattle.collect.proofs.Lists.{found_at, not_at}
 use Rattle.repository.specs.Reading.{Contents}

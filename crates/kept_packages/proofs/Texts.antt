@@ -13,7 +13,7 @@ use Rattle.workspaces.specs.Lists.{Has}
 use Rattle.workspaces.specs.Space.{Space, owners, owner_named, IsOwnerAt}
 use Rattle.turbo_config.specs.declared.entry.TaskDef.{TaskDef}
 use Rattle.turbo_config.specs.Names.{begins_caret}
-use Rattle.turbo_config.specs.Setup.{Setup, task_def, is_name, AreNames}
+use Rattle.task_definitions.specs.Setup.{Setup, task_def, is_name, AreNames}
 use Rattle.task_graph.specs.Tasks.{is_hash, is_full}
 use Rattle.repository.specs.Reading.{Contents}
 use Rattle.kept_packages.specs.Kept.{names_package, NamesTaskOf}

@@ -12,7 +12,7 @@ use Rattle.workspaces.specs.Reach.{IsLeast}
 use Rattle.workspaces.specs.Space.{owners, owner_named, root_package}
 use Rattle.turbo_config.specs.declared.entry.TaskDef.{TaskDef}
 use Rattle.turbo_config.specs.Names.{begins_caret}
-use Rattle.turbo_config.specs.Setup.{task_def, is_name}
+use Rattle.task_definitions.specs.Setup.{task_def, is_name}
 use Rattle.task_graph.specs.Tasks.{is_hash, is_full}
 use Rattle.task_inputs.specs.Homes.{is_home, configured}
 use Rattle.task_inputs.specs.Inputs.{is_far_input}

@@ -7,7 +7,7 @@ use Rattle.workspaces.specs.Lists.{Has}
 use Rattle.workspaces.specs.Space.{Space, IsProper, owners, owner_named}
 use Rattle.turbo_config.specs.declared.entry.TaskDef.{TaskDef}
 use Rattle.turbo_config.specs.Names.{begins_caret}
-use Rattle.turbo_config.specs.Setup.{Setup, task_def, AreNames as AreTaskNames}
+use Rattle.task_definitions.specs.Setup.{Setup, task_def, AreNames as AreTaskNames}
 use Rattle.task_graph.specs.Tasks.{is_hash, is_full}
 use Rattle.task_inputs.specs.Folders.{Folders, number_at}
 use Rattle.task_inputs.specs.Homes.{is_home}

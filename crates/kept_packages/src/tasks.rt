@@ -1,7 +1,7 @@
 // The owners whose tasks are named in definitions.
 ghost use Rattle.std.specs.Prelude.{◌≡◌, ◌<◌, ◌∷◌, [], length, IfOk, OnOk};
 ghost use Rattle.turbo_config.specs.Names.{begins_caret};
-ghost use Rattle.turbo_config.specs.Setup.{AreNames};
+ghost use Rattle.task_definitions.specs.Setup.{AreNames};
 ghost use Rattle.workspaces.specs.Space.{owners};
 ghost use Rattle.repository.specs.Reading.{contents_of};
 ghost use Rattle.kept_packages.specs.Kept.{NamesTaskOf};
@@ -18,7 +18,7 @@ use crate::KeptErr;
 use rel_path::Text;
 use repository::Repository;
 use std::alloc::Global;
-use turbo_config::Config;
+use task_definitions::Config;
 use workspaces::Packages;
 
 // Begins what means the packages that a package depends on.

@@ -11,7 +11,7 @@ use Rattle.npm_lock.specs.declared.error.ExtErr.TheVariants.{Missing as missing_
 use Rattle.npm_lock.specs.Externals.{Externals}
 use Rattle.workspaces.specs.declared.member.Package.{Package}
 use Rattle.workspaces.specs.Space.{Space, owner_named}
-use Rattle.turbo_config.specs.Setup.{Setup, task_def}
+use Rattle.task_definitions.specs.Setup.{Setup, task_def}
 use Rattle.listing.specs.declared.part.Part.{Part}
 use Rattle.listing.specs.declared.part.Listing.{Listing}
 use Rattle.collect.specs.declared.wanted.Wanted.{Wanted}

@@ -9,7 +9,7 @@ use Rattle.cli_words.specs.declared.order.RunOrder.{RunOrder}
 use Rattle.workspaces.specs.declared.member.Package.{Package}
 use Rattle.workspaces.specs.Space.{Space}
 use Rattle.turbo_config.specs.declared.task_id.TaskId.{TaskId}
-use Rattle.turbo_config.specs.Setup.{Setup, task_def}
+use Rattle.task_definitions.specs.Setup.{Setup, task_def}
 use Rattle.filters.specs.declared.error.FilterErr.{FilterErr}
 use Rattle.filters.specs.Selection.{words_fault}
 use Rattle.task_graph.specs.declared.error.GraphErr.{GraphErr}

@@ -5,7 +5,7 @@ use Rattle.rel_path.specs.Files.{FileMap}
 use Rattle.cli_words.specs.declared.order.RunOrder.{RunOrder}
 use Rattle.workspaces.specs.declared.member.Package.{Package}
 use Rattle.workspaces.specs.Space.{Space}
-use Rattle.turbo_config.specs.Setup.{Setup}
+use Rattle.task_definitions.specs.Setup.{Setup}
 use Rattle.turbo_config.specs.declared.task_id.TaskId.{TaskId}
 use Rattle.filters.specs.declared.error.FilterErr.{FilterErr}
 use Rattle.filters.specs.Selection.{AreSelectedBy, words_fault}

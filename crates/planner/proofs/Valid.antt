@@ -6,7 +6,7 @@ use Rattle.rel_path.specs.Paths.{Path}
 use Rattle.rel_path.specs.Files.{FileMap}
 use Rattle.cli_words.specs.declared.order.RunOrder.{RunOrder}
 use Rattle.workspaces.specs.Space.{Space}
-use Rattle.turbo_config.specs.Setup.{Setup, task_def}
+use Rattle.task_definitions.specs.Setup.{Setup, task_def}
 use Rattle.turbo_config.specs.declared.task_id.TaskId.{TaskId}
 use Rattle.task_graph.specs.declared.plan.PlanList.{PlanList}
 use Rattle.listing.specs.declared.part.Part.{Part}

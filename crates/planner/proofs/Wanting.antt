@@ -14,7 +14,7 @@ use Rattle.workspaces.specs.Space.{Space, owner_named}
 use Rattle.workspaces.specs.Reach.{AreBelow, is_in}
 use Rattle.workspaces.proofs.Owners.{owner_name}
 use Rattle.filters.specs.Selection.{AreSelectedBy, is_included, is_excluded}
-use Rattle.turbo_config.specs.Setup.{Setup, task_def}
+use Rattle.task_definitions.specs.Setup.{Setup, task_def}
 use Rattle.turbo_config.specs.declared.task_id.TaskId.{TaskId}
 use Rattle.task_graph.specs.declared.plan.PlanList.{PlanList}
 use Rattle.task_graph.specs.Ids.{has}

@@ -4,7 +4,7 @@ use Rattle.std.specs.List.{AllByRecursion}
 use Rattle.rel_path.specs.Files.{FileMap}
 use Rattle.cli_words.specs.declared.order.RunOrder.{RunOrder}
 use Rattle.workspaces.specs.Space.{Space}
-use Rattle.turbo_config.specs.Setup.{Setup}
+use Rattle.task_definitions.specs.Setup.{Setup}
 use Rattle.filters.specs.Selection.{AreSelectedBy, words_fault}
 use Rattle.task_graph.specs.declared.node.Node.{Node}
 use Rattle.task_graph.specs.declared.plan.PlanList.{PlanList}

@@ -1,13 +1,14 @@
 // The definitions of the planned tasks.
 ghost use Rattle.std.specs.Prelude.{◌≡◌, true, Some, IfOk};
 ghost use Rattle.std.specs.List.{AllByRecursion};
-ghost use Rattle.turbo_config.specs.Setup.{task_def};
+ghost use Rattle.task_definitions.specs.Setup.{task_def};
 ghost use Rattle.task_graph.specs.Tasks.{has_def};
 ghost use Rattle.collect.specs.Listings.{ArePaired};
 
 use run_plan::TaskDefs;
 use std::alloc::{AllocError, Global};
-use turbo_config::{Config, TaskDef, TaskId};
+use task_definitions::Config;
+use turbo_config::{TaskDef, TaskId};
 
 /// The definition of a task that has one.
 fn def_of(alloc: Global, config: &Config, id: &TaskId) -> Result<TaskDef, AllocError>

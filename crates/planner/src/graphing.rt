@@ -14,8 +14,8 @@ ghost use Rattle.planner.specs.Steps.{Ends, NoMore, error_of};
 use refusals::{Refusal, Stop};
 use rel_path::{Places, Texts};
 use std::alloc::Global;
+use task_definitions::Config;
 use task_graph::{Expansion, Graph, GraphErr, PlanList, expand};
-use turbo_config::Config;
 use workspaces::Packages;
 
 fn graph_error(fault: GraphErr) -> Stop

@@ -28,9 +28,9 @@ use rel_path::limits::MAX_FILE_BYTES;
 use repository::Repository;
 use run_plan::Plan;
 use std::alloc::{AllocError, Global};
+use task_definitions::Config;
 use task_graph::PlanList;
 use tree_dev::Tree;
-use turbo_config::Config;
 
 /// The plan of these tasks, whose parts the listing has.
 fn plan_of(

@@ -20,7 +20,7 @@ use Rattle.turbo_config.specs.declared.entry.TaskDef.{TaskDef}
 use Rattle.turbo_config.specs.declared.files.PackageConfig.{PackageConfig}
 use Rattle.turbo_config.specs.Names.{has_hash, behind_hash, full_name, root_name, is_root_name, is_reserved, is_task_name}
 use Rattle.turbo_config.specs.Entries.{at_name, no_keys, def_of}
-use Rattle.turbo_config.specs.Setup.{Tasks, Setup, each_once, is_among, root_entry, own_entry, merged_entry, is_script_task, script_entry, file_entry, entry_by, root_task_entry, entry_of, task_def, tails_of, ends_in, is_own, is_file_name, is_name_by, is_name}
+use Rattle.task_definitions.specs.Setup.{Tasks, Setup, each_once, is_among, root_entry, own_entry, merged_entry, is_script_task, script_entry, file_entry, entry_by, root_task_entry, entry_of, task_def, tails_of, ends_in, is_own, is_file_name, is_name_by, is_name}
 use Rattle.workspaces.specs.Lists.{Has}
 use Rattle.prune_facts.proofs.Lists.{none≢some, some_inj, not_true, any_has, has_any}
 

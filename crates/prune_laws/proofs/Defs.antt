@@ -8,7 +8,7 @@ use Rattle.std.proofs.lemmas.Slice.Eq.{bytes_eq-Decides}
 use Rattle.rel_path.specs.Paths.{Path, name_eq}
 use Rattle.rel_path.proofs.PathLaws.{name_self}
 use Rattle.turbo_config.specs.declared.entry.TaskDef.{TaskDef}
-use Rattle.turbo_config.specs.Setup.{Tasks, Setup, each_once, is_among, task_def}
+use Rattle.task_definitions.specs.Setup.{Tasks, Setup, each_once, is_among, task_def}
 use Rattle.workspaces.specs.declared.member.Package.{Package}
 use Rattle.workspaces.specs.Edges.{text_by}
 use Rattle.workspaces.specs.Lists.{Has}

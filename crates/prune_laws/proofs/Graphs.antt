@@ -13,7 +13,7 @@ use Rattle.std.proofs.lemmas.Cmp.{then_total, on_total}
 use Rattle.std.proofs.lemmas.Map.Lookups.{exact_bytes}
 use Rattle.rel_path.specs.Paths.{name_cmp}
 use Rattle.turbo_config.specs.declared.task_id.TaskId.{TaskId}
-use Rattle.turbo_config.specs.Setup.{Setup}
+use Rattle.task_definitions.specs.Setup.{Setup}
 use Rattle.workspaces.specs.Lists.{Has, places}
 use Rattle.workspaces.specs.Space.{Space}
 use Rattle.task_graph.specs.declared.error.GraphErr.{GraphErr}

@@ -8,7 +8,7 @@ use Rattle.globs.specs.Outputs.{may_declare, declares, declares_below}
 use Rattle.workspaces.specs.declared.member.Package.{Package}
 use Rattle.workspaces.specs.Lists.{Has}
 use Rattle.workspaces.specs.Space.{Space, root_package, owners, is_root_folder, lies_below, lies_in_some, is_home_of}
-use Rattle.turbo_config.specs.Setup.{Setup}
+use Rattle.task_definitions.specs.Setup.{Setup}
 use Rattle.task_inputs.specs.Homes.{Configured, Home, home_of, folders_of, declares_in, declared_in, is_declared, is_home, configured}
 use Rattle.prune_facts.proofs.Lists.{not_true, any_has, has_any, any-map}
 use Rattle.prune_facts.proofs.Strips.{is_in, below_from, folder-in, folder_inside, inner_folder, in_empty}

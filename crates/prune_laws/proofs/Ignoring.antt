@@ -8,7 +8,7 @@ use Rattle.rel_path.proofs.PathLaws.{path_same, path_self}
 use Rattle.workspaces.specs.declared.member.Package.{Package}
 use Rattle.workspaces.specs.Lists.{Has}
 use Rattle.workspaces.specs.Space.{root_package, owners, is_root_folder, lies_below}
-use Rattle.turbo_config.specs.Setup.{Setup}
+use Rattle.task_definitions.specs.Setup.{Setup}
 use Rattle.task_inputs.specs.Homes.{is_declared, is_home}
 use Rattle.task_inputs.specs.Ignores.{ignore_name, is_ignore_file, is_rule_file, rule_files, rules_found, rules_by, is_left_out}
 use Rattle.collect.specs.Steps.{folder_of}

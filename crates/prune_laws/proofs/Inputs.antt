@@ -13,7 +13,7 @@ use Rattle.workspaces.specs.declared.member.Package.{Package}
 use Rattle.workspaces.specs.Lists.{Has}
 use Rattle.workspaces.specs.Space.{root_package, owners, manifest_in, manifest_name, is_root_folder, lies_below}
 use Rattle.turbo_config.specs.declared.entry.TaskDef.{TaskDef}
-use Rattle.turbo_config.specs.Setup.{Setup, task_def}
+use Rattle.task_definitions.specs.Setup.{Setup, task_def}
 use Rattle.task_inputs.specs.Homes.{is_declared, is_home}
 use Rattle.input_entries.specs.Entries.{is_default_entry, entry_of, entries_of, has_default, rest_where, matches_from, any_reaches, is_wide, any_wide}
 use Rattle.task_inputs.specs.Ignores.{is_left_out}

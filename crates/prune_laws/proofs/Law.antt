@@ -11,7 +11,7 @@ use Rattle.workspaces.specs.Lists.{Has}
 use Rattle.workspaces.specs.Space.{Space, owners, owner_named}
 use Rattle.turbo_config.specs.declared.task_id.TaskId.{TaskId}
 use Rattle.turbo_config.specs.declared.entry.TaskDef.{TaskDef}
-use Rattle.turbo_config.specs.Setup.{Tasks, Setup, task_def}
+use Rattle.task_definitions.specs.Setup.{Tasks, Setup, task_def}
 use Rattle.task_graph.specs.Ids.{id_cmp}
 use Rattle.task_graph.specs.Edges.{edges}
 use Rattle.task_inputs.specs.Ignores.{is_left_out}

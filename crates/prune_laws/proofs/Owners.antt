@@ -6,7 +6,7 @@ use Rattle.rel_path.specs.Paths.{Path, name_eq}
 use Rattle.rel_path.proofs.PathLaws.{name_same, name_self}
 use Rattle.manifest.specs.Faults.{is_package_name}
 use Rattle.turbo_config.specs.Names.{has_hash}
-use Rattle.turbo_config.specs.Setup.{Setup, each_once}
+use Rattle.task_definitions.specs.Setup.{Setup, each_once}
 use Rattle.workspaces.specs.declared.member.Package.{Package}
 use Rattle.workspaces.specs.Lists.{Has}
 use Rattle.workspaces.specs.Space.{Space, AreApart, root_name, root_package, owners, owner_named}

@@ -18,7 +18,7 @@ use Rattle.workspaces.specs.Lists.{Has, ascending}
 use Rattle.workspaces.specs.Space.{Space, owners, owner_named}
 use Rattle.turbo_config.specs.declared.task_id.TaskId.{TaskId}
 use Rattle.turbo_config.specs.declared.entry.TaskDef.{TaskDef}
-use Rattle.turbo_config.specs.Setup.{Setup, task_def}
+use Rattle.task_definitions.specs.Setup.{Setup, task_def}
 use Rattle.listing.specs.declared.part.Part.{Part}
 use Rattle.task_inputs.specs.Homes.{others_than}
 use Rattle.task_inputs.specs.Inputs.{is_input}

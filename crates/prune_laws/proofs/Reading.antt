@@ -8,7 +8,7 @@ use Rattle.manifest.specs.declared.manifest.Manifest.{Manifest}
 use Rattle.tree_walk.specs.declared.error.WalkErr.{WalkErr}
 use Rattle.turbo_config.specs.declared.files.PackageConfig.{PackageConfig}
 use Rattle.turbo_config.specs.RootFile.{RootFile}
-use Rattle.turbo_config.specs.Setup.{Setup, each_once, setup_of}
+use Rattle.task_definitions.specs.Setup.{Setup, each_once, setup_of}
 use Rattle.workspaces.specs.declared.member.Package.{Package}
 use Rattle.workspaces.specs.declared.error.SpaceErr.{SpaceErr}
 use Rattle.workspaces.specs.Space.{Space, space_of}

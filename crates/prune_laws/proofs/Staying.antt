@@ -10,7 +10,7 @@ use Rattle.globs.specs.Outputs.{declares}
 use Rattle.workspaces.specs.declared.member.Package.{Package}
 use Rattle.workspaces.specs.Lists.{Has}
 use Rattle.workspaces.specs.Space.{root_package, owners, manifest_in, manifest_name, is_root_folder, lies_below}
-use Rattle.turbo_config.specs.Setup.{Setup}
+use Rattle.task_definitions.specs.Setup.{Setup}
 use Rattle.task_inputs.specs.Homes.{Configured, is_declared, is_home, configured}
 use Rattle.task_inputs.specs.Ignores.{ignore_name, is_ignore_file}
 use Rattle.task_inputs.specs.Inputs.{is_manifest, may_count}

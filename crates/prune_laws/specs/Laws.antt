@@ -8,7 +8,7 @@ use Rattle.workspaces.specs.Edges.{text_by}
 use Rattle.workspaces.specs.Space.{owners, owner_named}
 use Rattle.turbo_config.specs.declared.task_id.TaskId.{TaskId}
 use Rattle.turbo_config.specs.declared.entry.TaskDef.{TaskDef}
-use Rattle.turbo_config.specs.Setup.{task_def}
+use Rattle.task_definitions.specs.Setup.{task_def}
 use Rattle.task_inputs.specs.Ignores.{is_left_out}
 use Rattle.task_inputs.specs.Inputs.{is_input}
 use Rattle.run_laws.specs.Ancestors.{part_at}

@@ -6,7 +6,7 @@ use Rattle.rel_path.specs.Limits.{sum_limit}
 use Rattle.workspaces.specs.declared.member.Package.{Package}
 use Rattle.workspaces.specs.Lists.{Has}
 use Rattle.workspaces.specs.Space.{Space, owners, owner_named}
-use Rattle.turbo_config.specs.Setup.{Setup}
+use Rattle.task_definitions.specs.Setup.{Setup}
 use Rattle.listing.specs.declared.part.Part.{Part}
 use Rattle.listing.specs.declared.part.Listing.{Listing}
 use Rattle.collect.specs.declared.wanted.Wanted.{Wanted}

@@ -6,7 +6,7 @@ use Rattle.std.proofs.lemmas.Bool.{and_parts, false≢true, false_from_ne_true}
 use Rattle.rel_path.specs.Paths.{Path}
 use Rattle.turbo_config.specs.Names.{has_hash, is_reserved, is_task_name}
 use Rattle.turbo_config.specs.declared.task_id.TaskId.{TaskId}
-use Rattle.turbo_config.specs.Setup.{Tasks, Setup, task_def, is_name_by, is_name}
+use Rattle.task_definitions.specs.Setup.{Tasks, Setup, task_def, is_name_by, is_name}
 use Rattle.workspaces.specs.declared.member.Package.{Package}
 use Rattle.workspaces.specs.Lists.{Has, places}
 use Rattle.workspaces.specs.Space.{Space, root_package, owners}

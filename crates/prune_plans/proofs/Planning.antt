@@ -4,7 +4,7 @@ use Rattle.std.specs.Prelude.{Result, Ok, Err, find}
 use Rattle.rel_path.specs.Files.{FileMap}
 use Rattle.workspaces.specs.Lists.{Has, places}
 use Rattle.turbo_config.specs.declared.task_id.TaskId.{TaskId}
-use Rattle.turbo_config.specs.Setup.{Setup, task_def}
+use Rattle.task_definitions.specs.Setup.{Setup, task_def}
 use Rattle.filters.specs.declared.error.FilterErr.{FilterErr}
 use Rattle.filters.specs.Selection.{AreSelectedBy, words_fault}
 use Rattle.task_graph.specs.declared.error.GraphErr.{GraphErr}

@@ -8,7 +8,7 @@ use Rattle.rel_path.proofs.PathLaws.{name_self}
 use Rattle.turbo_config.specs.declared.task_id.TaskId.{TaskId}
 use Rattle.turbo_config.specs.declared.entry.TaskDef.{TaskDef}
 use Rattle.turbo_config.specs.Names.{begins_caret}
-use Rattle.turbo_config.specs.Setup.{Tasks, Setup, task_def, ends_in}
+use Rattle.task_definitions.specs.Setup.{Tasks, Setup, task_def, ends_in}
 use Rattle.workspaces.specs.declared.member.Package.{Package}
 use Rattle.workspaces.specs.Lists.{Has}
 use Rattle.workspaces.specs.Space.{Space, owners, owner_named}

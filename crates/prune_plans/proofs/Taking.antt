@@ -10,7 +10,7 @@ use Rattle.workspaces.specs.declared.member.Package.{Package}
 use Rattle.workspaces.specs.Lists.{Has}
 use Rattle.workspaces.specs.Space.{Space, owners, owner_named}
 use Rattle.turbo_config.specs.declared.entry.TaskDef.{TaskDef}
-use Rattle.turbo_config.specs.Setup.{Setup, task_def}
+use Rattle.task_definitions.specs.Setup.{Setup, task_def}
 use Rattle.task_inputs.specs.Ignores.{is_ignore_file, is_rule_file, rule_files}
 use Rattle.task_inputs.specs.Inputs.{is_input}
 use Rattle.collect.specs.declared.wanted.Wanted.{Wanted}

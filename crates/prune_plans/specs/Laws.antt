@@ -8,7 +8,7 @@ use Rattle.cli_words.specs.declared.order.RunOrder.{RunOrder}
 use Rattle.workspaces.specs.declared.member.Package.{Package}
 use Rattle.workspaces.specs.Edges.{text_by}
 use Rattle.workspaces.specs.Lists.{Has}
-use Rattle.turbo_config.specs.Setup.{Setup, task_def}
+use Rattle.task_definitions.specs.Setup.{Setup, task_def}
 use Rattle.filters.specs.declared.filter.Core.TheVariants.{Name}
 use Rattle.filters.specs.declared.filter.End.TheVariants.{Bare}
 use Rattle.filters.specs.declared.filter.Filter.{Filter}

@@ -7,7 +7,7 @@ use Rattle.serde_json.specs.Data.{Data}
 use Rattle.workspaces.specs.declared.member.Package.{Package}
 use Rattle.workspaces.specs.Space.{Space, owners, manifest_name}
 use Rattle.turbo_config.specs.declared.files.PackageConfig.{PackageConfig}
-use Rattle.turbo_config.specs.Setup.{Setup, each_once}
+use Rattle.task_definitions.specs.Setup.{Setup, each_once}
 use Rattle.task_inputs.specs.Homes.{is_home, is_declared}
 use Rattle.task_inputs.specs.Ignores.{ignore_name, is_ignore_file}
 use Rattle.task_inputs.specs.Rooted.{IsRooted, ArePicked}

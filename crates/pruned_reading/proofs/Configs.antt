@@ -18,7 +18,7 @@ use Rattle.workspaces.proofs.Apart.{AnyApart, members_apart}
 use Rattle.turbo_config.specs.declared.files.PackageConfig.{PackageConfig}
 use Rattle.turbo_config.specs.RootFile.{RootFile}
 use Rattle.turbo_config.specs.Files.{package_of}
-use Rattle.turbo_config.specs.Setup.{Setup, setup_of, by_name}
+use Rattle.task_definitions.specs.Setup.{Setup, setup_of, by_name}
 use Rattle.refusals.specs.declared.refusal.Refusal.{Refusal}
 use Rattle.repository.specs.Reading.{Contents, config_name, config_in, config_at, root_config, package_config, package_configs, and_more, folder_cmp, by_folder, homes_of, own_configs, script_names, setup_with, setup_from, setup_in, lock_name}
 use Rattle.pruned_files.specs.Pruned.{Pruning, IsPruning, pruned_files, kept_packages, pruned_setup}

@@ -10,7 +10,7 @@ use Rattle.workspaces.specs.declared.member.Package.{Package}
 use Rattle.workspaces.specs.Lists.{Has}
 use Rattle.workspaces.specs.Space.{Space, IsProper, AreApart, owners, root_package, is_proper, lies_below, is_root_folder, lies_in_some, is_home_of, manifest_name, manifest_in}
 use Rattle.workspaces.proofs.Apart.{members_apart}
-use Rattle.turbo_config.specs.Setup.{Setup}
+use Rattle.task_definitions.specs.Setup.{Setup}
 use Rattle.task_inputs.specs.Homes.{Home, Configured, home_of, folders_of, configured, is_home, declares_in, declared_in, is_declared}
 use Rattle.repository.specs.Reading.{config_name, config_in}
 use Rattle.pruned_reading.proofs.Lists.{any_none, has_any, map_has, has_map, has_front, front_or_last}

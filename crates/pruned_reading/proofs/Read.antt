@@ -9,7 +9,7 @@ use Rattle.tree_walk.specs.declared.error.WalkErr.{WalkErr}
 use Rattle.tree_walk.specs.Walked.{IsWalk, WalkedTo, Walks}
 use Rattle.workspaces.specs.declared.error.SpaceErr.{SpaceErr}
 use Rattle.workspaces.specs.Space.{Space, space_of}
-use Rattle.turbo_config.specs.Setup.{Setup}
+use Rattle.task_definitions.specs.Setup.{Setup}
 use Rattle.refusals.specs.declared.refusal.Refusal.{Refusal}
 use Rattle.repository.specs.Steps.{After, IsRefusal, walk_refusal, space_refusal}
 use Rattle.repository.specs.Reading.{Contents, root_manifest, lockfile, setup_in, AfterWalkOf, AfterSpace, Means}

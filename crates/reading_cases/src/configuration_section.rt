@@ -7,7 +7,8 @@ use globs::GlobErr;
 use rel_path::{Text, Texts};
 use serde_json::{Value, json};
 use std::alloc::Global;
-use turbo_config::{Config, ConfigErr, Globals, LogMode, PackageConfig, RootConfig, TaskDef};
+use task_definitions::Config;
+use turbo_config::{ConfigErr, Globals, LogMode, PackageConfig, RootConfig, TaskDef};
 
 fn refusal(alloc: Global, error: &ConfigErr) -> Result<Value> {
     match error {

@@ -7,7 +7,7 @@ use Rattle.rel_path.specs.Files.{FileMap}
 use Rattle.manifest.specs.declared.manifest.Manifest.{Manifest}
 use Rattle.workspaces.specs.declared.error.SpaceErr.{SpaceErr}
 use Rattle.workspaces.specs.Space.{Space, space_of}
-use Rattle.turbo_config.specs.Setup.{Setup}
+use Rattle.task_definitions.specs.Setup.{Setup}
 use Rattle.refusals.specs.declared.refusal.Refusal.{Refusal}
 use Rattle.refusals.specs.declared.stop.Stop.{Stop}
 use Rattle.refusals.specs.declared.stop.Stop.TheVariants.{Refused, Failed, OutOfMemory}

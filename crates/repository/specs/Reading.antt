@@ -27,7 +27,7 @@ use Rattle.turbo_config.specs.declared.files.PackageConfig.{PackageConfig}
 use Rattle.turbo_config.specs.declared.error.ConfigErr.{ConfigErr}
 use Rattle.turbo_config.specs.RootFile.{RootFile}
 use Rattle.turbo_config.specs.Files.{root_of, package_of}
-use Rattle.turbo_config.specs.Setup.{Setup, setup_of}
+use Rattle.task_definitions.specs.Setup.{Setup, setup_of}
 use Rattle.refusals.specs.declared.refusal.Refusal.{Refusal}
 use Rattle.refusals.specs.declared.refusal.Refusal.TheVariants as refusal
 use Rattle.repository.specs.declared.repository.Repository.{Repository}

@@ -12,8 +12,9 @@ use rel_path::limits::MAX_FILE_BYTES;
 use rel_path::{RelPath, Text, Texts};
 use std::alloc::Global;
 use std::collections::BTreeMap;
+use task_definitions::Config;
 use tree_dev::{DevErr, Found, Tree};
-use turbo_config::{Config, ConfigErr, PackageConfig, RootConfig};
+use turbo_config::{ConfigErr, PackageConfig, RootConfig};
 use workspaces::Packages;
 
 fn config_refused(path: RelPath, fault: ConfigErr) -> Stop

@@ -1,7 +1,7 @@
 // A repository that was read.
 use npm_lock::Lock;
 use rel_path::Paths;
-use turbo_config::Config;
+use task_definitions::Config;
 use workspaces::Packages;
 
 /// A repository: the walked files, in order; the packages of its workspace; what its turbo.json files say; and its

@@ -5,7 +5,7 @@ use Rattle.std.specs.declared.cmp.Ordering.{Ordering}
 use Rattle.std.specs.declared.cmp.Ordering.TheVariants.{Less, Equal, Greater}
 use Rattle.std.specs.Ordering.{ordering_reverse}
 use Rattle.std.proofs.lemmas.Bool.{false≢true}
-use Rattle.turbo_config.specs.Setup.{Setup}
+use Rattle.task_definitions.specs.Setup.{Setup}
 use Rattle.turbo_config.specs.declared.task_id.TaskId.{TaskId}
 use Rattle.workspaces.specs.Space.{Space}
 use Rattle.task_graph.specs.declared.error.GraphErr.{GraphErr}

@@ -5,7 +5,7 @@ use Rattle.std.specs.List.{AllByRecursion}
 use Rattle.std.proofs.lemmas.Slice.Eq.{bytes_eq-Decides}
 use Rattle.rel_path.specs.Paths.{name_eq}
 use Rattle.turbo_config.specs.Names.{begins_caret}
-use Rattle.turbo_config.specs.Setup.{Setup, is_name}
+use Rattle.task_definitions.specs.Setup.{Setup, is_name}
 use Rattle.turbo_config.specs.declared.task_id.TaskId.{TaskId}
 use Rattle.workspaces.specs.declared.member.Package.{Package}
 use Rattle.workspaces.specs.Space.{Space, root_package, owners, owner_named}

@@ -2,7 +2,7 @@
 use Rattle.std.proofs.Common.{◌≡◌, ◌<◌, ℕ, zero, suc, Bool, true, List, [], ◌∷◌, length, map, sym, ap, ◌∙◌, subst, arith}
 use Rattle.std.specs.Prelude.{filter}
 use Rattle.std.specs.List.{HoldsAt}
-use Rattle.turbo_config.specs.Setup.{Setup}
+use Rattle.task_definitions.specs.Setup.{Setup}
 use Rattle.workspaces.specs.declared.member.Package.{Package}
 use Rattle.workspaces.specs.Edges.{has_edge}
 use Rattle.workspaces.specs.Lists.{places, passes_at}

@@ -3,7 +3,7 @@ use Rattle.std.specs.Prelude.{ℕ, ◌&&◌, Bool, false, not, if◌then◌else�
 use Rattle.turbo_config.specs.declared.task_id.TaskId.{TaskId}
 use Rattle.turbo_config.specs.declared.entry.TaskDef.{TaskDef}
 use Rattle.turbo_config.specs.Names.{begins_caret}
-use Rattle.turbo_config.specs.Setup.{Setup, task_def, ends_in}
+use Rattle.task_definitions.specs.Setup.{Setup, task_def, ends_in}
 use Rattle.workspaces.specs.declared.member.Package.{Package}
 use Rattle.workspaces.specs.Edges.{has_edge}
 use Rattle.workspaces.specs.Lists.{ascending}

@@ -1,7 +1,7 @@
 -- The tasks that the words of a command line name (Turborepo, "turbo run").
 use Rattle.std.specs.Prelude.{ℕ, Bool, not, if◌then◌else◌, List, [], ◌∷◌, ◌++◌, length, Result, Ok, Err}
 use Rattle.turbo_config.specs.declared.task_id.TaskId.{TaskId}
-use Rattle.turbo_config.specs.Setup.{Setup, is_name}
+use Rattle.task_definitions.specs.Setup.{Setup, is_name}
 use Rattle.workspaces.specs.Space.{Space, owners}
 use Rattle.task_graph.specs.declared.error.GraphErr.{GraphErr}
 use Rattle.task_graph.specs.declared.error.GraphErr.TheVariants.{NoSuchTask}

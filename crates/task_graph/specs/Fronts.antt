@@ -2,7 +2,7 @@
 use Rattle.std.specs.Prelude.{◌≡◌, ◌++◌, List, [], ◌∷◌, Result, Ok, map, if◌then◌else◌}
 use Rattle.std.specs.BTreeSet.{insert_key}
 use Rattle.turbo_config.specs.declared.task_id.TaskId.{TaskId}
-use Rattle.turbo_config.specs.Setup.{Setup}
+use Rattle.task_definitions.specs.Setup.{Setup}
 use Rattle.workspaces.specs.Space.{Space}
 use Rattle.task_graph.specs.declared.edges.Row.{Row}
 use Rattle.task_graph.specs.Ids.{id_cmp, has}

@@ -2,7 +2,7 @@
 use Rattle.std.specs.Prelude.{ℕ, ◌&&◌, ◌==◌, Bool, List, is_some, map, filter}
 use Rattle.std.specs.List.{list_any, before_first, after_first}
 use Rattle.turbo_config.specs.declared.task_id.TaskId.{TaskId}
-use Rattle.turbo_config.specs.Setup.{Setup, task_def}
+use Rattle.task_definitions.specs.Setup.{Setup, task_def}
 use Rattle.workspaces.specs.declared.member.Package.{Package}
 use Rattle.workspaces.specs.Space.{Space, owner_named}
 use Rattle.workspaces.specs.Steps.{name_at}

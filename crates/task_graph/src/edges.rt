@@ -11,7 +11,8 @@ use crate::lookup::{add_tasks, full_id, has_def, is_task};
 use crate::node::listed;
 use rel_path::Text;
 use std::alloc::Global;
-use turbo_config::{Config, TaskId, TaskIds};
+use task_definitions::Config;
+use turbo_config::{TaskId, TaskIds};
 use workspaces::Packages;
 
 /// What the `dependsOn` of a task says: the tasks that it depends on, ascending, and the first text that is refused.

@@ -3,7 +3,7 @@ ghost use Rattle.std.specs.Prelude.{◌≡◌, ◌++◌, ◌⊎◌, not, length,
 ghost use Rattle.std.specs.Bool.{OnTrue};
 ghost use Rattle.std.specs.List.Sorted.{IsStrictlySortedBy};
 ghost use Rattle.rel_path.specs.Paths.{name_cmp};
-ghost use Rattle.turbo_config.specs.Setup.{AreNames, is_among};
+ghost use Rattle.task_definitions.specs.Setup.{AreNames, is_among};
 ghost use Rattle.workspaces.specs.Reach.{AreBelow};
 ghost use Rattle.workspaces.specs.Space.{owners};
 ghost use Rattle.task_graph.specs.declared.error.GraphErr.TheVariants.{NoSuchTask, OutOfMemory};
@@ -14,7 +14,8 @@ use crate::GraphErr;
 use crate::lookup::{add_tasks, full_id, is_task};
 use rel_path::{Places, Text, Texts};
 use std::alloc::{AllocError, Global};
-use turbo_config::{Config, TaskId};
+use task_definitions::Config;
+use turbo_config::TaskId;
 use workspaces::Packages;
 
 /// Whether the name is among names that ascend.

@@ -12,7 +12,8 @@ use crate::reached::reached;
 use crate::{Graph, GraphErr, Node};
 use rel_path::{Places, Texts};
 use std::alloc::Global;
-use turbo_config::{Config, TaskId};
+use task_definitions::Config;
+use turbo_config::TaskId;
 use workspaces::Packages;
 
 /// The nodes of tasks with what they depend on, or the refusal of the first that has one.

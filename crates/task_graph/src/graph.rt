@@ -16,7 +16,8 @@ use crate::sorting::sorted;
 use crate::{GraphErr, Node, PlanList};
 use std::alloc::Global;
 use std::marker::Model;
-use turbo_config::{Config, TaskId};
+use task_definitions::Config;
+use turbo_config::TaskId;
 use workspaces::Packages;
 
 /// The tasks of a run with what each depends on. Contracts see it as the list of its nodes, ascending by task.

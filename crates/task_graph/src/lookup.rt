@@ -8,7 +8,8 @@ ghost use Rattle.task_graph.specs.Memory.{OnlyMemory};
 use crate::GraphErr;
 use rel_path::Text;
 use std::alloc::Global;
-use turbo_config::{Config, TaskId};
+use task_definitions::Config;
+use turbo_config::TaskId;
 use workspaces::Packages;
 
 /// Whether the task has a definition.

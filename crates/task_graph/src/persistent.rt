@@ -7,7 +7,8 @@ ghost use Rattle.task_graph.specs.Memory.{OnlyMemory};
 use crate::GraphErr;
 use rel_path::{Pairs, Text};
 use std::alloc::Global;
-use turbo_config::{Config, TaskId};
+use task_definitions::Config;
+use turbo_config::TaskId;
 use workspaces::Packages;
 
 fn has_name(pairs: &Pairs, name: &Text) -> bool

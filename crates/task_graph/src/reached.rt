@@ -10,7 +10,8 @@ use crate::edges::{Row, row_of};
 use crate::node::copied;
 use std::alloc::Global;
 use std::collections::BTreeMap;
-use turbo_config::{Config, TaskId};
+use task_definitions::Config;
+use turbo_config::TaskId;
 use workspaces::Packages;
 
 /// The tasks that were found, with what they depend on, and those that are still to be looked at.

@@ -19,7 +19,7 @@ use Rattle.globs.specs.Outputs.{declares}
 use Rattle.workspaces.specs.declared.member.Package.{Package}
 use Rattle.workspaces.specs.Space.{Space, IsProper, owners, root_package, is_home_of, is_root_folder, lies_in_some, lies_below, is_proper, manifest_in, manifest_name}
 use Rattle.workspaces.proofs.Owners.{owners_count, package_slot, root_slot}
-use Rattle.turbo_config.specs.Setup.{Setup}
+use Rattle.task_definitions.specs.Setup.{Setup}
 use Rattle.task_inputs.specs.Homes.{Home, Configured, home_of, folders_of, configured_in, LieApart, declared_in}
 use Rattle.task_inputs.specs.Facts.{place_by, home_place, is_manifest_in, may_count_in}
 use Rattle.task_inputs.specs.Folders.{Folders, number_at, AreHomes, AreIndexed, Numbers, IsFound, IsHomeOf}

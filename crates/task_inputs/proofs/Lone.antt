@@ -6,7 +6,7 @@ use Rattle.std.specs.List.{filter_map, cons_option, list_any}
 use Rattle.rel_path.specs.Paths.{Path, name_eq}
 use Rattle.globs.specs.declared.out_set.OutSet.{OutSet}
 use Rattle.globs.specs.Outputs.{takes, declares, any_declares}
-use Rattle.turbo_config.specs.Setup.{Setup, task_def}
+use Rattle.task_definitions.specs.Setup.{Setup, task_def}
 use Rattle.turbo_config.specs.declared.entry.TaskDef.{TaskDef}
 use Rattle.task_inputs.specs.declared.configured.LoneTask.{LoneTask}
 use Rattle.task_inputs.specs.Homes.{Configured, configured_by, configured_in, others_than}

@@ -12,7 +12,7 @@ use Rattle.globs.specs.Match.{matches}
 use Rattle.workspaces.specs.declared.member.Package.{Package}
 use Rattle.workspaces.specs.Lists.{places}
 use Rattle.workspaces.specs.Space.{is_home_of, is_root_folder, manifest_in, manifest_name}
-use Rattle.turbo_config.specs.Setup.{Setup}
+use Rattle.task_definitions.specs.Setup.{Setup}
 use Rattle.task_inputs.specs.declared.definitions.DefinedTask.{DefinedTask}
 use Rattle.input_entries.specs.declared.entries.Base.{Base}
 use Rattle.input_entries.specs.declared.entries.Base.TheVariants.{Root, Owner}

@@ -6,7 +6,7 @@ use Rattle.rel_path.specs.Paths.{Path, name_eq, strip}
 use Rattle.globs.specs.Outputs.{declares}
 use Rattle.workspaces.specs.declared.member.Package.{Package}
 use Rattle.workspaces.specs.Space.{is_home_of}
-use Rattle.turbo_config.specs.Setup.{Setup, task_def}
+use Rattle.task_definitions.specs.Setup.{Setup, task_def}
 
 -- no package's folder is that of another, or lies in it
 abbrev pub LieApart : List Package → Type 0

@@ -6,7 +6,7 @@ use Rattle.ignore_rules.specs.declared.rule.Rule.{Rule}
 use Rattle.ignore_rules.specs.Rules.{rules_of}
 use Rattle.ignore_rules.specs.Ignored.{is_ignored}
 use Rattle.workspaces.specs.declared.member.Package.{Package}
-use Rattle.turbo_config.specs.Setup.{Setup}
+use Rattle.task_definitions.specs.Setup.{Setup}
 use Rattle.task_inputs.specs.Homes.{is_declared}
 
 abbrev pub ignore_name : List ℕ

@@ -7,7 +7,7 @@ use Rattle.workspaces.specs.declared.member.Package.{Package}
 use Rattle.workspaces.specs.Lists.{places}
 use Rattle.workspaces.specs.Space.{manifest_in, is_root_folder}
 use Rattle.turbo_config.specs.declared.entry.TaskDef.{TaskDef}
-use Rattle.turbo_config.specs.Setup.{Setup}
+use Rattle.task_definitions.specs.Setup.{Setup}
 use Rattle.task_inputs.specs.declared.definitions.DefinedTask.{DefinedTask}
 use Rattle.task_inputs.specs.Homes.{is_home, is_declared}
 use Rattle.input_entries.specs.Entries.{entries_of, has_default, rest_where, any_reaches, any_wide}

@@ -4,7 +4,7 @@ use Rattle.std.specs.List.{filter_map, AllByRecursion}
 use Rattle.std.specs.Option.{option_map}
 use Rattle.rel_path.specs.Paths.{Path, name_eq}
 use Rattle.globs.specs.declared.out_set.OutSet.{OutSet}
-use Rattle.turbo_config.specs.Setup.{Setup, task_def}
+use Rattle.task_definitions.specs.Setup.{Setup, task_def}
 use Rattle.task_inputs.specs.declared.configured.LoneTask.{LoneTask}
 use Rattle.task_inputs.specs.Homes.{Configured, Home}
 

@@ -6,7 +6,7 @@ use Rattle.globs.specs.Lists.{list_takes}
 use Rattle.workspaces.specs.Lists.{Has}
 use Rattle.workspaces.specs.declared.member.Package.{Package}
 use Rattle.turbo_config.specs.declared.entry.TaskDef.{TaskDef}
-use Rattle.turbo_config.specs.Setup.{Setup, task_def, is_name}
+use Rattle.task_definitions.specs.Setup.{Setup, task_def, is_name}
 use Rattle.input_entries.specs.declared.entries.InputList.{InputList}
 use Rattle.task_inputs.specs.declared.tasks.TaskGlobs.{TaskGlobs}
 use Rattle.task_inputs.specs.Homes.{Home}

@@ -12,7 +12,7 @@ use listing::ListErr;
 use rel_path::{RelPath, Text, Texts};
 use std::alloc::Global;
 use std::marker::Model;
-use turbo_config::Config;
+use task_definitions::Config;
 
 /// A configured task, and its output set as if it were the only task of its owner.
 #[derive(Debug, Drop)]

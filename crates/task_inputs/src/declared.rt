@@ -16,7 +16,7 @@ use rel_path::{RelPath, Text};
 use std::alloc::Global;
 use std::collections::BTreeMap;
 use std::marker::Model;
-use turbo_config::Config;
+use task_definitions::Config;
 use workspaces::Packages;
 
 type Folders = BTreeMap<Vec<Text>, usize>;

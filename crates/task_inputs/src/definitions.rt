@@ -1,12 +1,13 @@
 // The definitions of tasks.
 ghost use Rattle.std.specs.Prelude.{◌≡◌, IfOk};
 ghost use Rattle.listing.specs.Memory.{OnlyMemory};
-ghost use Rattle.turbo_config.specs.Setup.{task_def};
+ghost use Rattle.task_definitions.specs.Setup.{task_def};
 
 use listing::ListErr;
 use rel_path::Text;
 use std::alloc::Global;
-use turbo_config::{Config, TaskDef};
+use task_definitions::Config;
+use turbo_config::TaskDef;
 
 /// A task, by its owner's number and its definition.
 #[derive(Debug, Drop)]

@@ -13,7 +13,7 @@ use ignore_rules::Stack;
 use listing::ListErr;
 use rel_path::{Places, RelPath};
 use std::alloc::Global;
-use turbo_config::Config;
+use task_definitions::Config;
 
 /// What is known of a walked file, whatever task is asked about.
 #[derive(Clone, Copy, Debug)]

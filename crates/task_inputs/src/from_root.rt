@@ -4,7 +4,7 @@ ghost use Rattle.std.specs.List.{list_any};
 ghost use Rattle.listing.specs.Memory.{OnlyMemory};
 ghost use Rattle.workspaces.specs.Reach.{AreBelow};
 ghost use Rattle.workspaces.specs.Space.{owners};
-ghost use Rattle.turbo_config.specs.Setup.{AreNames};
+ghost use Rattle.task_definitions.specs.Setup.{AreNames};
 ghost use Rattle.task_inputs.specs.Homes.{LieApart};
 ghost use Rattle.task_inputs.specs.Facts.{is_wide_list};
 ghost use Rattle.task_inputs.specs.Rooted.{IsRooted, ArePicked, far_by, far_test, AreTasksOf, AreTasks, Reads, are_some};
@@ -17,7 +17,7 @@ use globs::GlobList;
 use listing::ListErr;
 use rel_path::{Paths, Places, RelPath, Text, Texts};
 use std::alloc::Global;
-use turbo_config::Config;
+use task_definitions::Config;
 use workspaces::Packages;
 
 /// The names of tasks.

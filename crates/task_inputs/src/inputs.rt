@@ -20,7 +20,7 @@ use ignore_rules::Stack;
 use listing::ListErr;
 use rel_path::{Paths, Places, RelPath};
 use std::alloc::Global;
-use turbo_config::Config;
+use task_definitions::Config;
 use workspaces::Packages;
 
 /// The places in the walk of the files that the task takes. Its list of inputs is found among the lists, or put there.

@@ -1,5 +1,4 @@
 mod Hashes
 mod Prefixes
-mod Gains
 mod Listed
 mod Places

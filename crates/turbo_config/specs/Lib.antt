@@ -7,8 +7,5 @@ pub mod Values
 pub mod Entries
 pub mod Tasks
 pub mod Files
-pub mod Setup
-pub mod Laws
-pub mod Sets
 pub mod Reads
 pub mod RootFile

@@ -62,7 +62,7 @@ pub struct TaskDef {
 
 /// What one file says of a task: each key that it has.
 #[derive(Debug, Drop)]
-pub(crate) struct Entry {
+pub struct Entry {
     pub(crate) depends_on: Option<Texts>,
     pub(crate) inputs: Option<Texts>,
     pub(crate) outputs: Option<Texts>,
@@ -78,7 +78,7 @@ pub(crate) struct Entry {
 
 impl Entry {
     /// An entry without keys.
-    pub(crate) fn new() -> Entry
+    pub fn new() -> Entry
         ensures { result ≡ no_keys }
     {
         Entry {
@@ -137,9 +137,12 @@ impl Entry {
         }
     }
 
-    /// The definition by this entry, with the keys of `above` in place of its own. Arrays may extend those of this entry.
+    /// The definition by this entry, with the keys of `above` in place of its own. In an array of
+    /// `above` the first `$TURBO_EXTENDS$` stands for the array of this entry, or for the key's
+    /// default where it has none (`$TURBO_DEFAULT$` for `inputs`, else no texts), and later ones for
+    /// nothing. A key that neither has is as [`TaskDef`] says.
     #[tactic(auto, unfolding(crate::specs::Entries::over, crate::specs::Entries::def_of))]
-    pub(crate) fn def_under(&self, alloc: Global, above: &Entry) -> Result<TaskDef, AllocError>
+    pub fn def_under(&self, alloc: Global, above: &Entry) -> Result<TaskDef, AllocError>
         requires below { EntryReads self.now }
         requires above { EntryReads above.now }
         ensures reads { IfOk result DefReads }

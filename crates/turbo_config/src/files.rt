@@ -6,6 +6,7 @@ ghost use Rattle.json_view.specs.Answer.{data_of};
 ghost use Rattle.json_view.specs.Look.{value_in};
 ghost use Rattle.turbo_config.specs.Answers.{Reads, ReadsAs, ReadsInto, Passes};
 ghost use Rattle.turbo_config.specs.Keys.{top_keys};
+ghost use Rattle.turbo_config.specs.Reads.{AreGlobs};
 ghost use Rattle.turbo_config.specs.Files.{value_of, pipeline_fault, extends_fault, no_globals, is_top, with_global, with_top_member, globals_in, root_in, package_in, root_of, package_of, is_root_alone};
 
 use crate::error::ConfigErr;
@@ -38,7 +39,8 @@ pub struct Globals {
 }
 
 impl Globals {
-    pub(crate) fn new(alloc: Global) -> Globals
+    /// Those of a file without keys: empty lists, and no mode. It takes no memory.
+    pub fn new(alloc: Global) -> Globals
         ensures { result ≡ no_globals }
     {
         Globals {
@@ -71,7 +73,8 @@ impl Model for RootConfig {
 /// A package's turbo.json.
 #[derive(Debug, Drop)]
 pub struct PackageConfig {
-    pub(crate) tasks: Tasks,
+    /// Its entries, each of whose keys is the name of a task of this package.
+    pub tasks: Tasks,
 }
 
 /// The value that JSON with comments and trailing commas writes.
@@ -221,6 +224,16 @@ impl RootConfig {
     {
         let json = read_value(alloc, bytes)?;
         read_root(alloc, &json)
+    }
+
+    /// The global keys, and the tasks.
+    pub fn into_parts(self) -> (Globals, Tasks)
+        ensures globals { result.0 ≡ self.globals }
+        ensures tasks { result.1 ≡ self.tasks }
+        ensures reads { AreGlobs result.0.inputs }
+    {
+        let RootConfig { globals, tasks } = self;
+        (globals, tasks)
     }
 }
 

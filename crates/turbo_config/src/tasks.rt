@@ -33,9 +33,10 @@ pub(crate) enum FileKind {
     Package,
 }
 
-/// Entries by the keys of `tasks`, which contracts see as pairs, ascending by key.
+/// The entries of a file by the keys of its `tasks`, which are `task` or `package#task`. Contracts
+/// see them as pairs, ascending by key. The lists of globs in them read.
 #[derive(Debug, Drop)]
-pub(crate) struct Tasks {
+pub struct Tasks {
     entries: BTreeMap<Text, Entry>,
 }
 
@@ -70,13 +71,15 @@ impl Tasks {
         Ok(())
     }
 
-    pub(crate) fn entries(&self) -> &BTreeMap<Text, Entry>
+    /// The entries by their keys.
+    pub fn entries(&self) -> &BTreeMap<Text, Entry>
         ensures { result.now.entries ≡ self.now }
     {
         &self.entries
     }
 
-    pub(crate) fn get(&self, key: &Text) -> Option<&Entry>
+    /// The entry of this key, if there is one.
+    pub fn get(&self, key: &Text) -> Option<&Entry>
         ensures value { Lends (at_name self.now key.now) result }
         ensures reads { IfSome result (λ e. EntryReads e.now) }
     {

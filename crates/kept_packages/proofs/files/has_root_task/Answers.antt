@@ -4,7 +4,7 @@ use Rattle.std.proofs.lemmas.List.{take_all}
 use Rattle.workspaces.specs.declared.member.Package.{Package}
 use Rattle.workspaces.specs.Space.{owners, root_name}
 use Rattle.workspaces.proofs.Owners.{at_root}
-use Rattle.turbo_config.specs.Setup.{task_def}
+use Rattle.task_definitions.specs.Setup.{task_def}
 use Rattle.task_inputs.specs.Homes.{Configured, configured_in}
 use Rattle.repository.specs.Reading.{contents_of}
 use Rattle.kept_packages.proofs.Naming.{none_next, none_so, some_so, root_has}

@@ -1,6 +1,6 @@
 use Rattle.std.proofs.Common.{◌≡◌, subst}
 use Rattle.std.specs.Prelude.{Some}
-use Rattle.turbo_config.specs.Setup.{task_def}
+use Rattle.task_definitions.specs.Setup.{task_def}
 use Rattle.turbo_config.specs.declared.task_id.TaskId.{TaskId}
 use Rattle.collect.proofs.Lists.{paired_next}
 use Rattle.planner.proofs.definitions.defs_of.Goals as goal

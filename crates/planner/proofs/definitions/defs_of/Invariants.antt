@@ -1,6 +1,6 @@
 use Rattle.std.proofs.Common.{◌≡◌, take}
 use Rattle.std.specs.Prelude.{Some}
-use Rattle.turbo_config.specs.Setup.{task_def}
+use Rattle.task_definitions.specs.Setup.{task_def}
 use Rattle.collect.specs.Listings.{ArePaired}
 use Rattle.planner.proofs.definitions.defs_of.Given as goal
 

@@ -1,7 +1,7 @@
 use Rattle.std.proofs.Common.{◌≡◌, ◌∙◌, [], length, refl, ap, sym, subst}
 use Rattle.std.specs.Prelude.{Some, slice_get, slice_index_or}
 use Rattle.env_select.specs.Choice.{IsChosen, is_given}
-use Rattle.turbo_config.specs.Setup.{task_def}
+use Rattle.task_definitions.specs.Setup.{task_def}
 use Rattle.turbo_config.specs.declared.entry.TaskDef.{TaskDef}
 use Rattle.turbo_config.specs.declared.files.Globals.{Globals}
 use Rattle.turbo_config.specs.declared.task_id.TaskId.{TaskId}

@@ -1,6 +1,6 @@
 use Rattle.std.proofs.Common.{◌≡◌, ◌∙◌, ◌++◌, ◌∷◌, ◌+◌, ℕ, Bool, true, false, not, List, drop, refl, sym, ap, subst, append_assoc, Result, Ok, Err}
 use Rattle.std.specs.Bool.{OnTrue}
-use Rattle.turbo_config.specs.Setup.{Setup}
+use Rattle.task_definitions.specs.Setup.{Setup}
 use Rattle.turbo_config.specs.declared.task_id.TaskId.{TaskId}
 use Rattle.workspaces.specs.Space.{Space}
 use Rattle.task_graph.specs.declared.error.GraphErr.{GraphErr}
