@@ -2,10 +2,9 @@
 use crate::cuts::{MOST_CALLS, NEVER, push_new};
 use crate::pairs::{open_fault, pairs_in, pairs_on, store_bytes, with_generation};
 use crate::parts;
-use crate::untold::Untold;
 use anyhow::{Result, anyhow};
 use artifact_store::OpenErr;
-use case_files::{Vast, answers, inputs};
+use case_files::{Untold, Vast, answers, inputs};
 use compact::{CompactErr, CurrentErr, Kept, Side, compact, current};
 use record_log::Log;
 use serde_json::{Value, json};
@@ -100,7 +99,7 @@ fn found<P: StoreDevice + Drop>(
     from: Vec<u8>,
     to: P,
 ) -> Result<Value> {
-    let (side, _, to) = current(alloc, Untold::new(alloc, from, NEVER), to);
+    let (side, _, to) = current(alloc, Untold::of_bytes(alloc, from, NEVER), to);
     let side = side_of(alloc, side)?;
     let (generation, to) = generation(alloc, to);
     let to = pairs_on(alloc, to)?;
@@ -118,7 +117,7 @@ fn compacted<P: StoreDevice + Drop>(
     requires { P.tells → ⊥ }
 {
     let before = Vec::from_slice(alloc, &from)?;
-    let from = Untold::new(alloc, from, NEVER);
+    let from = Untold::of_bytes(alloc, from, NEVER);
     let (result, from, to) = compact(alloc, from, to, keep_of(case)?);
     if before.len() > EMPTY && from.bytes() != before.as_slice() {
         return Err(anyhow!("the store that is read was written to"));
@@ -134,7 +133,7 @@ fn plain(alloc: Global, case: &Value) -> Result<Value> {
             compacted(alloc, case, both.from, to)
         }
         None => {
-            let to = Untold::new(alloc, both.to, NEVER);
+            let to = Untold::of_bytes(alloc, both.to, NEVER);
             compacted(alloc, case, both.from, to)
         }
     }
@@ -144,8 +143,8 @@ fn plain(alloc: Global, case: &Value) -> Result<Value> {
 
 // The pairs of the current one of two stores.
 fn pairs_of(alloc: Global, both: Both) -> Result<Value> {
-    let first = Untold::new(alloc, both.from, NEVER);
-    let (side, first, spare) = current(alloc, first, Untold::new(alloc, both.to, NEVER));
+    let first = Untold::of_bytes(alloc, both.from, NEVER);
+    let (side, first, spare) = current(alloc, first, Untold::of_bytes(alloc, both.to, NEVER));
     match side {
         Ok(Side::First) => pairs_in(alloc, first.bytes()),
         Ok(Side::Spare) => pairs_in(alloc, spare.bytes()),
@@ -184,8 +183,8 @@ fn push_cut(
     states: &mut Vec<Value>,
 ) -> Result<bool> {
     let both = stores_of(alloc, case)?;
-    let from = Untold::new(alloc, both.from, passes);
-    let to = Untold::new(alloc, both.to, to_passes);
+    let from = Untold::of_bytes(alloc, both.from, passes);
+    let to = Untold::of_bytes(alloc, both.to, to_passes);
     let (result, from, to) = compact(alloc, from, to, keep_of(case)?);
     push_crashes(alloc, states, &from, &to)?;
     Ok(result.is_ok())

@@ -12,7 +12,6 @@ mod pairs;
 mod parts;
 mod relays;
 mod turns;
-mod untold;
 
 use anyhow::Result;
 use case_files::print_section;

@@ -3,11 +3,10 @@ ghost use Rattle.std.specs.Prelude.{IsTrue};
 ghost use Rattle.record_log.specs.Kinds.{is_known};
 
 use crate::parts;
-use crate::untold::Untold;
 use anyhow::{Result, anyhow};
 use artifact_store::{OpenErr, Store};
 use cache_api::{Artifact, Cache};
-use case_files::{answers, inputs};
+use case_files::{Untold, answers, inputs};
 use record_log::{GENERATION, Log, PAIR};
 use rel_path::Bytes;
 use serde_json::{Value, json};
@@ -28,7 +27,7 @@ pub fn open_fault(alloc: Global, fault: OpenErr) -> Result<Value> {
 }
 
 fn memory(alloc: Global, bytes: Vec<u8>) -> Untold {
-    Untold::new(alloc, bytes, u64::MAX)
+    Untold::of_bytes(alloc, bytes, u64::MAX)
 }
 
 // The bytes behind one more frame.

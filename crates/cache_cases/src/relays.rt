@@ -7,10 +7,9 @@ ghost use Rattle.relay_store.specs.Stores.{state_in};
 use crate::calls::answers_of;
 use crate::cuts::{MOST_CALLS, NEVER, push_new};
 use crate::pairs::{open_fault, pairs_in, pairs_on, store_bytes};
-use crate::untold::Untold;
 use anyhow::{Result, anyhow};
 use artifact_store::{OpenErr, Store};
-use case_files::{Vast, inputs};
+use case_files::{Untold, Vast, inputs};
 use cli_words::Access;
 use relay_store::Relay;
 use serde_json::{Value, json};
@@ -188,7 +187,7 @@ fn memory(
         return Ok(None);
     }
     let bytes = store_bytes(alloc, case, name)?;
-    Ok(Some(Untold::new(alloc, bytes, passes)))
+    Ok(Some(Untold::of_bytes(alloc, bytes, passes)))
 }
 
 // The pairs that a later run finds.

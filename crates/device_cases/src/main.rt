@@ -14,7 +14,6 @@ mod rooms;
 mod sessions;
 mod sinks;
 mod trees;
-mod untold;
 
 use anyhow::Result;
 use case_files::print_section;

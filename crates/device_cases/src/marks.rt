@@ -2,10 +2,9 @@
 use crate::caches::{behind, calls, open_fault, outs_of};
 use crate::devices::device_of;
 use crate::parts;
-use crate::untold::Untold;
 use anyhow::{Result, anyhow};
 use artifact_store::{Store, StoreMark};
-use case_files::inputs;
+use case_files::{Untold, inputs};
 use globs::OutSet;
 use rel_path::Bytes;
 use serde_json::{Value, json};

@@ -1,12 +1,10 @@
 // Cases, each of one run or of a run for each call that fails.
 use crate::called::Seen;
 use crate::compare::{Differences, compare};
-use crate::faults::Fault;
-use crate::format::{Case, Group, Step, Sweep, Wanted};
 use crate::scene::{Scene, are_same};
 use crate::steps::{run_step, scene_of};
-use crate::tally::Tally;
 use anyhow::{Context, Result};
+use run_case_files::{Case, Fault, Group, Step, Sweep, Tally, Wanted};
 use std::alloc::Global;
 
 /// A run of a case: the call that fails in one of its steps, and what is wanted in the place of

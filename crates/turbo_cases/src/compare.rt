@@ -1,9 +1,8 @@
 // What is seen of a step against what is wanted.
-use crate::bytes::{pairs_in, text_of};
 use crate::called::Seen;
-use crate::format::Wanted;
 use crate::scene::text_at;
 use anyhow::Result;
+use run_case_files::{Wanted, pairs_in, text_of};
 use std::alloc::Global;
 
 /// At the end of a line: the line may go on in any way. As a last line alone: the page may.

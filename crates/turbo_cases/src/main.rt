@@ -4,25 +4,19 @@
 //! is printed for each group, and the first cases that differ.
 #![tactic(auto)]
 
-mod bytes;
 mod called;
 mod cases;
-mod commands;
 mod compare;
-mod faults;
-mod format;
-mod many;
 mod scene;
 mod steps;
-mod tally;
 mod turns;
 mod world;
 
 use anyhow::Result;
 use cases::run_group;
+use run_case_files::Tally;
 use std::rt::Files;
 use std::{env, fs};
-use tally::Tally;
 
 /// The groups, each in a file of its name.
 const GROUPS: [&str; 19] = [

@@ -1,8 +1,7 @@
 // A repository and its stores, and changes to them.
-use crate::bytes::bytes_of;
-use crate::format::{Contents, Patch};
 use anyhow::{Context, Result};
 use rel_path::{Bytes, Files, RelPath};
+use run_case_files::{Contents, Patch, bytes_of};
 use serde_json::Value;
 use std::alloc::Global;
 use tree_dev::bytes_at;

@@ -1,15 +1,12 @@
 // One step of a case: what it is given, and the call.
 use crate::called::{Cuttable, Given, Others, Seen, call, call_full};
-use crate::commands::book_of;
-use crate::faults::{Fault, StoreFaults, faults_of};
-use crate::format::{Case, Group, Step};
-use crate::many::push_many;
 use crate::scene::{Scene, store_of};
 use crate::turns::turns_of;
 use crate::world::EarlyWorld;
 use anyhow::{Context, Result};
 use case_files::Vast;
 use rel_path::{Bytes, Pairs, Text, Texts};
+use run_case_files::{Case, Fault, Group, Step, StoreFaults, book_of, faults_of, push_many};
 use spawn_dev::MemWorld;
 use std::alloc::Global;
 use store_dev::{FuseStore, MemStore};

@@ -1,10 +1,10 @@
 // What other runs put into the shared file, turn by turn.
-use crate::format::Source;
 use crate::scene::Scene;
 use anyhow::{Context, Result, anyhow};
 use artifact_store::Store;
 use cache_api::Artifact;
 use rel_path::Bytes;
+use run_case_files::Source;
 use shared_runs::{OtherPut, OtherPuts};
 use std::alloc::Global;
 use store_dev::MemStore;

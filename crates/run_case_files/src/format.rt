@@ -1,4 +1,4 @@
-// What a file of cases holds. `data/README.md` says it for readers.
+// What a file of cases holds. The `data/README.md` of `turbo_cases` says it for readers.
 use serde::Deserialize;
 use serde_json::Value;
 use std::collections::BTreeMap;
@@ -14,6 +14,7 @@ pub type Commands = BTreeMap<String, Does>;
 #[derive(Drop, Deserialize)]
 #[serde(deny_unknown_fields)]
 pub struct Group {
+    /// The repository of all cases.
     #[serde(default)]
     pub files: Contents,
     #[serde(default)]
@@ -66,6 +67,7 @@ pub struct Many {
 #[derive(Drop, Deserialize)]
 #[serde(deny_unknown_fields)]
 pub struct Does {
+    /// The exit status.
     #[serde(default)]
     pub status: u8,
     #[serde(default)]

@@ -15,6 +15,7 @@ pub struct Tally {
 }
 
 impl Tally {
+    /// No case so far.
     pub fn new(alloc: Global) -> Tally {
         Tally {
             alloc,

@@ -1,14 +1,15 @@
-// A device of which nothing is told, as nothing is of a file.
-ghost use Rattle.std.specs.Prelude.{◌≡◌, ◌≤◌, ◌+◌, []};
+// A device of which nothing is told, as nothing is of a file: a store in it may be resumed with any
+// mark.
+ghost use Rattle.std.specs.Prelude.{◌≡◌, ◌≤◌, [], IfErr};
 ghost use Rattle.rel_path.specs.Causes.{Rose};
-ghost use Rattle.store_dev.specs.FuseStore.{bytes_of, faults_of};
+ghost use Rattle.case_files.specs.Untold.{bytes_of, faults_of};
 
 use rel_path::Bytes;
 use std::alloc::Global;
 use store_dev::{FuseStore, MemStore, StoreDevice, StoreErr};
 
-/// A device in memory that passes so many calls and fails every later one. It fails where it is
-/// read past its end, as a file does, and where it would be written behind it.
+/// A device in memory. It fails where the device inside does, where it is read past its end, as a
+/// file does, and where it would be written behind it.
 #[derive(Drop)]
 pub struct Untold {
     inner: FuseStore,
@@ -17,25 +18,40 @@ pub struct Untold {
 }
 
 impl Untold {
-    pub fn new(alloc: Global, bytes: Vec<u8>, passes: u64) -> Untold {
-        let store = MemStore::new(alloc, Bytes::from_vec(bytes), Vec::new(alloc));
-        let inner = FuseStore::new(store, passes);
+    ghost use Rattle.store_dev.specs.FuseStore as inside;
+
+    /// This device, with nothing told of it. It takes no memory.
+    pub fn new(inner: FuseStore) -> Untold
+        ensures bytes { bytes_of result ≡ inside.bytes_of inner }
+        ensures faults { faults_of result ≡ inside.faults_of inner }
+    {
         Untold { inner, missed: 0 }
     }
 
+    /// A device with these bytes, so many calls of which pass. It takes no memory.
+    pub fn of_bytes(alloc: Global, bytes: Vec<u8>, passes: u64) -> Untold
+        ensures { bytes_of result ≡ bytes.items }
+    {
+        let store = MemStore::new(alloc, Bytes::from_vec(bytes), Vec::new(alloc));
+        Untold::new(FuseStore::new(store, passes))
+    }
+
+    /// The bytes as a read gives them.
     pub fn bytes(&self) -> &[u8]
-        ensures { result.now ≡ bytes_of self.now.inner }
+        ensures { result.now ≡ bytes_of self.now }
     {
         self.inner.inner().bytes()
     }
 
     /// The device as it reads after a crash, of which nothing is unsynced (`MemStore::crash`).
-    pub fn crash(&self, alloc: Global, fill: u8, keep: u64) -> Result<MemStore, StoreErr> {
+    pub fn crash(&self, alloc: Global, fill: u8, keep: u64) -> Result<MemStore, StoreErr>
+        ensures { IfErr result (λ e. e ≡ StoreErr.OutOfMemory) }
+    {
         self.inner.inner().crash(alloc, fill, keep)
     }
 }
 
-/// Counts a call at a place that the device does not have.
+// Counts a call at a place that the device does not have.
 fn miss(missed: &mut u64) -> StoreErr
     ensures counted { Rose missed.old missed.new }
     ensures later { missed.old ≤ missed.new }
@@ -56,7 +72,7 @@ impl StoreDevice for Untold {
 
     ghost images_since = { λ _ _ _. ⊥ };
 
-    ghost store_faults = { λ d. faults_of d.inner + d.missed };
+    ghost store_faults = { faults_of };
 
     ghost are_bytes = { λ _ t. absurd t };
 
